@@ -1,0 +1,51 @@
+-- Bounds of sums, products and negations, and that a number bounded below half of a width's power fits in that width.
+-- `polynomial-fits`, at the end, shows their use.
+use mathlib.Core.Path.{_≡_, sym, _∙_, ap₂}
+use Prim.Native.Nat.{ℕ, zero, suc, _+_, _*_, _^_, _≤_, _<_, min}
+use native.Mathlib.Nat.{mul-le-mul}
+use native.Mathlib.Omega.{arith}
+use lib.Dec.{lit<, lit≤}
+use lib.IntN.{ℤ, pos, negsuc, negℤ, _+ℤ_, _*ℤ_}
+use mir.Syntax.{Width, w64}
+use mir.Val.{SFits, hbits}
+use Rattle.integer.specs.Within.{up, dn, Within}
+use Rattle.integer.proofs.Difference.{_⊖_, as-⊖, ⊖-≡, ⊖-+}
+
+one-sign : (z : ℤ) → min (up z) (dn z) ≡ 0
+one-sign (pos n) = omega arith
+one-sign (negsuc n) = omega arith
+
+-- a difference's parts, whatever naturals it is written by
+parts : (z : ℤ) (a b : ℕ) → z ≡ a ⊖ b → up z + b ≡ a + dn z
+parts z a b e = ⊖-≡ (up z) (dn z) a b .0 (sym (as-⊖ z) ∙ e)
+
+add-parts : (x y : ℤ) → up (x +ℤ y) + (dn x + dn y) ≡ (up x + up y) + dn (x +ℤ y)
+add-parts x y = parts (x +ℤ y) (up x + up y) (dn x + dn y) (ap₂ (λ a b. a +ℤ b) (as-⊖ x) (as-⊖ y) ∙ ⊖-+ (up x) (dn x) (up y) (dn y))
+
+pub within-more : {A B : ℕ} {z : ℤ} → A ≤ B → Within A z → Within B z
+within-more h w = record { hi = omega arith; lo = omega arith }
+
+pub within-add : {A B : ℕ} (x y : ℤ) → Within A x → Within B y → Within (A + B) (x +ℤ y)
+within-add x y v w = record { hi = omega (arith, add-parts x y, one-sign (x +ℤ y)); lo = omega (arith, add-parts x y, one-sign (x +ℤ y)) }
+
+pub within-neg : {B : ℕ} (z : ℤ) → Within B z → Within B (negℤ z)
+within-neg (pos zero) w = w
+within-neg (pos (suc n)) w = record { hi = omega arith; lo = w .hi }
+within-neg (negsuc n) w = record { hi = w .lo; lo = omega arith }
+
+within-product : {A B : ℕ} (a b : ℕ) → a ≤ A → b ≤ B → Within (A * B) (pos (a * b))
+within-product a b h k = record { hi = mul-le-mul h k; lo = omega arith }
+
+pub within-mul : {A B : ℕ} (x y : ℤ) → Within A x → Within B y → Within (A * B) (x *ℤ y)
+within-mul (pos a) (pos b) v w = within-product a b (v .hi) (w .hi)
+within-mul (pos a) (negsuc b) v w = within-neg (pos (a * suc b)) (within-product a (suc b) (v .hi) (w .lo))
+within-mul (negsuc a) (pos b) v w = within-neg (pos (suc a * b)) (within-product (suc a) b (v .lo) (w .hi))
+within-mul (negsuc a) (negsuc b) v w = within-product (suc a) (suc b) (v .lo) (w .lo)
+
+pub within-fits : {B : ℕ} (w : Width) (z : ℤ) → B < 2 ^ hbits w → Within B z → SFits w z
+within-fits w (pos n) h v = record { sfits = omega (arith, v .hi) }
+within-fits w (negsuc n) h v = record { sfits = omega (arith, v .lo) }
+
+-- their use: x y − z, where z is bounded more closely
+polynomial-fits : (x y z : ℤ) → Within (2 ^ 30) x → Within (2 ^ 30) y → Within 7 z → SFits w64 (x *ℤ y +ℤ negℤ z)
+polynomial-fits x y z u v w = within-fits w64 (x *ℤ y +ℤ negℤ z) (lit< tt) (within-add (x *ℤ y) (negℤ z) (within-mul x y u v) (within-neg z (within-more {B = 2 ^ 30} (lit≤ tt) w)))
