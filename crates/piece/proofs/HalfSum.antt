@@ -1,0 +1,61 @@
+-- The half-sum beside its unrounded self: m+n+1 scalings, each with an error from −e₁/D to e₂/D.
+use mathlib.Core.Path.{_≡_, refl, sym, _∙_, ap, ap₂}
+use Prim.Native.Nat.{ℕ, zero, suc, _+_, _*_, _-_, _^_, _≤_}
+use native.Mathlib.Nat.{pow-zero, pow-suc, pow-succ', zero-add, add-zero, sub-zero}
+use native.Mathlib.Omega.{arith}
+use lib.IntN.{ℤ, pos, one, _+ℤ_, _*ℤ_, +ℤ-comm, *ℤ-comm}
+use Rattle.integer.specs.Sum.{sum}
+use Rattle.integer.proofs.Laws.{one-*ℤ, *ℤ-assoc, *ℤ-left-comm}
+use Rattle.integer.proofs.Sum.{sum-cong, sum-*, sum-first}
+use Rattle.hermite.specs.HalfSum.{valueUnit, g, unrounded}
+use Rattle.piece.specs.Scaling.{rounded, scaled, scaledTimes}
+use Rattle.piece.specs.HalfSum.{descended, halfSum}
+use Rattle.piece.proofs.Near.{Near, Rounding, near-exact, near-as, near-scaled, near-sum}
+
+-- step 2 without rounding, k rounds after the first, multiplied by D^k
+exact : (ℕ → ℤ) → ℕ → ℕ → ℕ → ℕ → ℤ
+exact G a D k i = sum k (λ l. pos valueUnit *ℤ G (i + l) *ℤ pos (a ^ l * D ^ (k - l)))
+
+exact-start : (G : ℕ → ℤ) (a D i : ℕ) → exact G a D 0 i ≡ pos (D ^ 0) *ℤ (pos valueUnit *ℤ G i)
+unfolding exact sum
+exact-start G a D i = rw (add-zero, pow-zero a, pow-zero D) (*ℤ-comm (pos valueUnit *ℤ G i) (pos 1))
+
+exact-next : (G : ℕ → ℤ) (a D k i : ℕ) → exact G a D (suc k) i ≡ pos a *ℤ exact G a D k (suc i) +ℤ pos (D ^ suc k) *ℤ (pos valueUnit *ℤ G i)
+unfolding exact
+exact-next G a D k i =
+    sum-first k _ ∙ ap₂ (λ x y. x +ℤ y) first (sum-cong k _ _ (λ l h. later l) ∙ sum-* k (pos a) (λ l. pos valueUnit *ℤ G (suc i + l) *ℤ pos (a ^ l * D ^ (k - l)))) ∙
+    +ℤ-comm (pos (D ^ suc k) *ℤ (pos valueUnit *ℤ G i)) (pos a *ℤ exact G a D k (suc i))
+  where
+    first : pos valueUnit *ℤ G (i + 0) *ℤ pos (a ^ 0 * D ^ (suc k - 0)) ≡ pos (D ^ suc k) *ℤ (pos valueUnit *ℤ G i)
+    first =
+        let e : a ^ 0 * D ^ (suc k - 0) ≡ D ^ suc k = rw (pow-zero, sub-zero) (omega arith) in
+        rw (add-zero, e) (*ℤ-comm (pos valueUnit *ℤ G i) (pos (D ^ suc k)))
+
+    later : (l : ℕ) → pos valueUnit *ℤ G (i + suc l) *ℤ pos (a ^ suc l * D ^ (suc k - suc l)) ≡ pos a *ℤ (pos valueUnit *ℤ G (suc i + l) *ℤ pos (a ^ l * D ^ (k - l)))
+    later l =
+        let e : i + suc l ≡ suc i + l = omega arith in
+        let f : suc k - suc l ≡ k - l = omega arith in
+        let f : a ^ suc l * D ^ (suc k - suc l) ≡ a * (a ^ l * D ^ (k - l)) = rw (f, pow-suc) (omega arith) in
+        rw (e, f) (*ℤ-left-comm (pos valueUnit *ℤ G (suc i + l)) (pos a) (pos (a ^ l * D ^ (k - l))))
+
+module _ (D e₁ e₂ : ℕ) (once : (z : ℤ) → Rounding D e₁ e₂ z (rounded z D)) where
+  pub near-times : {N c₁ c₂ : ℕ} {Z u : ℤ} (k a : ℕ) → a ≤ D → Near D N c₁ c₂ Z u → Near D (N + k) (c₁ + k * e₁) (c₂ + k * e₂) (pos (a ^ k) *ℤ Z) (scaledTimes k u a D)
+  unfolding scaledTimes scaled one
+  near-times {Z = Z} zero a h near = near-as (omega arith) (omega arith) (omega arith) (rw pow-zero (sym (one-*ℤ Z))) near
+  near-times {Z = Z} {u = u} (suc k) a h near =
+      near-as (omega arith) (omega arith) (omega arith)
+      (rw pow-succ' (sym (*ℤ-assoc (pos a) (pos (a ^ k)) Z)))
+      (near-scaled a h (near-times k a h near) (once (scaledTimes k u a D *ℤ pos a)))
+
+  near-descended : (G : ℕ → ℤ) (a k i : ℕ) → a ≤ D → Near D k (k * e₁) (k * e₂) (exact G a D k i) (descended G a D k i)
+  unfolding descended scaled
+  near-descended G a zero i h = near-as refl (omega arith) (omega arith) (sym (exact-start G a D i)) (near-exact D 0 (pos valueUnit *ℤ G i))
+  near-descended G a (suc k) i h =
+      near-as refl (omega arith) (omega arith) (sym (exact-next G a D k i))
+      (near-sum (near-scaled a h (near-descended G a k (suc i) h) (once (descended G a D k (suc i) *ℤ pos a))) (near-exact D (suc k) (pos valueUnit *ℤ G i)))
+
+  pub near-halfSum : (m n a : ℕ) (w : ℕ → ℤ) → a ≤ D → Near D (m + (n + 1)) ((m + (n + 1)) * e₁) ((m + (n + 1)) * e₂) (unrounded m n a D w) (halfSum m n a D w)
+  unfolding halfSum unrounded exact
+  near-halfSum m n a w h = near-as refl (omega arith) (omega arith)
+      (ap (λ x. pos ((D - a) ^ (n + 1)) *ℤ x) (sum-cong m _ _ (λ l b. ap (λ i. pos valueUnit *ℤ g n w i *ℤ pos (a ^ l * D ^ (m - l))) (zero-add l))))
+      (near-times (n + 1) (D - a) (omega arith) (near-descended (g n w) a m 0 h))

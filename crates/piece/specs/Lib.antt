@@ -1,0 +1,7 @@
+pub mod Piece
+pub mod Scaling
+pub mod HalfSum
+pub mod Value
+pub mod Trend
+pub mod Water
+pub mod KnownResults

@@ -1,0 +1,39 @@
+-- Document 01, "Blend over one piece": a piece, its grades and weights, and its exact blend.
+use mathlib.Core.List.{List}
+use Prim.Native.Nat.{ℕ, _*_, _-_, _^_}
+use lib.IntN.{ℤ, pos, _*ℤ_}
+use lib.ListN.{length, getD}
+use Rattle.hermite.specs.Polynomial.{Polynomial}
+use Rattle.hermite.specs.Blend.{blend}
+
+-- a piece: its length h in steps, and the coefficients C_0, C_1, .. of the knots at its left and right end
+pub record Piece : Type 0 where
+  pub h : ℕ
+  pub left : List ℤ
+  pub right : List ℤ
+
+-- the grades at the left and the right end: C_0 to C_m, C_0 to C_n
+abbrev pub m : Piece → ℕ
+m P = length (P .left) - 1
+
+abbrev pub n : Piece → ℕ
+n P = length (P .right) - 1
+
+-- C_j × h^j
+abbrev pub weight : ℕ → List ℤ → ℕ → ℤ
+weight h C j = getD C j (pos 0) *ℤ pos (h ^ j)
+
+-- the weights p_j of the left knot and q_j of the right one
+abbrev pub p : Piece → ℕ → ℤ
+p P = weight (P .h) (P .left)
+
+abbrev pub q : Piece → ℕ → ℤ
+q P = weight (P .h) (P .right)
+
+-- D = 256 × h: the piece's length in 1/256 step, the unit of query positions and of r
+abbrev pub D : Piece → ℕ
+D P = 256 * P .h
+
+-- the exact blend of the piece
+unfoldable pub curve : Piece → Polynomial
+curve P = blend (m P) (n P) (p P) (q P)
