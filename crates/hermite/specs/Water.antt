@@ -13,7 +13,8 @@ waterUnit = 720720
 unfoldable pub integral : Polynomial → ℤ
 integral a = dot a (λ i. pos (waterUnit / (i + 1)))
 
--- the integral weights: c_0 = 720,720 × (m+1)/(m+n+2), c_j = c_(j−1) × j(m−j+1) / ((j+1)(m+n+2−j))
+-- the integral weights: c_0 = 720,720 × (m+1)/(m+n+2), c_j = c_(j−1) × j(m−j+1) / ((j+1)(m+n+2−j)).
+-- At j = m+1 the factor m−j+1 is 0, and so is every later entry
 unfoldable pub c : ℕ → ℕ → ℕ → ℕ
 c m n zero = waterUnit * (m + 1) / (m + n + 2)
 c m n (suc i) = let j = suc i in c m n i * (j * (m + 1 - j)) / ((j + 1) * (m + n + 2 - j))

@@ -8,7 +8,7 @@ use Rattle.hermite.specs.Polynomial.{at}
 use Rattle.hermite.specs.Blend.{rightWeights}
 use Rattle.hermite.specs.HalfSum.{valueUnit, unrounded}
 use Rattle.hermite.proofs.HalfSum.{blend-value}
-use Rattle.piece.specs.Piece.{Piece, m, n, p, q, D, curve}
+use Rattle.piece.specs.Piece.{Piece, m, n, p, q, D, exactBlend}
 use Rattle.piece.specs.Scaling.{rounded}
 use Rattle.piece.specs.HalfSum.{halfSum}
 use Rattle.piece.specs.Value.{N, value, valueError, ValueDistance}
@@ -18,8 +18,8 @@ use Rattle.piece.proofs.HalfSum.{near-halfSum}
 
 -- for any error of one rounding: the two half-sums make 2(m+n+1) scalings
 near-value : (P : Piece) (r e₁ e₂ : ℕ) → ((z : ℤ) → Rounding (D P) e₁ e₂ z (rounded z (D P))) → r ≤ D P →
-    Near (D P) (N P) (2 * N P * e₁) (2 * N P * e₂) (pos valueUnit *ℤ at r (D P) (N P) (curve P)) (value P r)
-unfolding value curve
+    Near (D P) (N P) (2 * N P * e₁) (2 * N P * e₂) (pos valueUnit *ℤ at r (D P) (N P) (exactBlend P)) (value P r)
+unfolding value exactBlend
 near-value P r e₁ e₂ once b = near-as refl (omega arith) (omega arith) (sym (blend-value r (D P) b (m P) (n P) (p P) (q P))) (near-sum left right)
   where
     left : Near (D P) (N P) (N P * e₁) (N P * e₂) (unrounded (m P) (n P) r (D P) (p P)) (halfSum (m P) (n P) r (D P) (p P))
@@ -36,5 +36,5 @@ value-distance P r h b = record {
   below = error-below (2 * N P) (omega arith) near (mul-lt-mul-of-pos-left (omega arith) (omega arith));
 }
   where
-    near : Near (D P) (N P) (2 * N P * 0) (2 * N P * (D P - 1)) (pos valueUnit *ℤ at r (D P) (N P) (curve P)) (value P r)
+    near : Near (D P) (N P) (2 * N P * 0) (2 * N P * (D P - 1)) (pos valueUnit *ℤ at r (D P) (N P) (exactBlend P)) (value P r)
     near = near-value P r 0 (D P - 1) (rounded-down (D P) (omega arith)) b

@@ -35,5 +35,5 @@ abbrev pub D : Piece → ℕ
 D P = 256 * P .h
 
 -- the exact blend of the piece
-unfoldable pub curve : Piece → Polynomial
-curve P = blend (m P) (n P) (p P) (q P)
+unfoldable pub exactBlend : Piece → Polynomial
+exactBlend P = blend (m P) (n P) (p P) (q P)

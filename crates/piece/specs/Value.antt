@@ -5,7 +5,7 @@ use lib.Signed.{_≤ℤ_, _<ℤ_}
 use Rattle.hermite.specs.Polynomial.{at}
 use Rattle.hermite.specs.Blend.{rightWeights}
 use Rattle.hermite.specs.HalfSum.{valueUnit}
-use Rattle.piece.specs.Piece.{Piece, m, n, p, q, D, curve}
+use Rattle.piece.specs.Piece.{Piece, m, n, p, q, D, exactBlend}
 use Rattle.piece.specs.HalfSum.{halfSum}
 
 -- Value = half-sum(m against n, r, left weights) + half-sum(n against m, D−r, right weights)
@@ -18,7 +18,7 @@ N P = m P + n P + 1
 
 -- (65,536 × the exact blend at r/D − v) × D^(m+n+1)
 unfoldable pub valueError : Piece → ℕ → ℤ → ℤ
-valueError P r v = pos valueUnit *ℤ at r (D P) (N P) (curve P) -ℤ pos (D P ^ N P) *ℤ v
+valueError P r v = pos valueUnit *ℤ at r (D P) (N P) (exactBlend P) -ℤ pos (D P ^ N P) *ℤ v
 
 -- 65,536 × the exact blend − v is at least 0 and below 2(m+n+1)
 pub record ValueDistance (P : Piece) (r : ℕ) (v : ℤ) : Type 0 where
