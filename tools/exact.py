@@ -1,0 +1,314 @@
+#!/usr/bin/env python3
+"""Document 01 in exact fractions: what the engine's numbers are held against.
+
+Written from the document, in its letters, and not from the Rattle text: the blend is formula (1)
+multiplied out, the derivative comes by differentiating it and the total by integrating it. Every case
+that is made has its distances, its total and its Taylor coefficients checked.
+
+  exact.py check    hold the entries of "Scans with known results" that concern one piece, and a sweep
+                    over all grades and gaps, against the document
+"""
+import random
+import sys
+from dataclasses import dataclass
+from fractions import Fraction
+from functools import cache
+from math import comb, factorial, floor
+
+UNIT_OF_VALUE = 65_536
+UNIT_OF_WATER = 720_720
+UNIT_OF_POSITION = 256
+GRADE_MAX = 7
+GAP_MAX = 16
+SIZE_MAX = 268_435_456
+
+
+class Broken(Exception):
+    """Something that document 01 states does not hold."""
+
+
+def hold(condition, *what):
+    if not condition:
+        raise Broken(" ".join(str(w) for w in what))
+
+
+# ---- polynomials in s: whole coefficients, lowest power first
+
+
+def add(a, b):
+    if len(a) < len(b):
+        a, b = b, a
+    return [x + (b[i] if i < len(b) else 0) for i, x in enumerate(a)]
+
+
+def times(a, b):
+    product = [0] * (len(a) + len(b) - 1)
+    for i, x in enumerate(a):
+        for j, y in enumerate(b):
+            product[i + j] += x * y
+    return product
+
+
+def power(a, k):
+    return times(a, power(a, k - 1)) if k else [1]
+
+
+def at(a, s):
+    return sum(x * s**i for i, x in enumerate(a))
+
+
+def derivative(a):
+    return [(i + 1) * x for i, x in enumerate(a[1:])]
+
+
+def integral(a, h):
+    """Over x from 0 to h, where s = x/h: each a_i × (x/h)^i integrated."""
+    return sum(Fraction(c, h**i) * Fraction(h ** (i + 1), i + 1) for i, c in enumerate(a))
+
+
+@cache
+def term(i, k):
+    """s^i × (1−s)^k, multiplied out."""
+    return times(power([0, 1], i), power([1, -1], k))
+
+
+# ---- one piece
+
+
+@dataclass(frozen=True)
+class Piece:
+    """Of h steps, with the coefficients C_0, C_1, .. of the knots at its ends."""
+
+    h: int
+    left: tuple
+    right: tuple
+
+    @property
+    def m(self):
+        return len(self.left) - 1
+
+    @property
+    def n(self):
+        return len(self.right) - 1
+
+    @property
+    def D(self):
+        return UNIT_OF_POSITION * self.h
+
+    def left_weights(self):
+        """p_j = C_j × h^j of the left knot."""
+        return [c * self.h**j for j, c in enumerate(self.left)]
+
+    def right_weights(self):
+        """(−1)^j × q_j, where q_j = C_j × h^j of the right knot."""
+        return [(-1) ** j * c * self.h**j for j, c in enumerate(self.right)]
+
+    @cache
+    def blend(self):
+        """Formula (1) of source document 000, multiplied out."""
+        m, n = self.m, self.n
+        a = []
+        for j, w in enumerate(self.left_weights()):
+            for i in range(m - j + 1):
+                a = add(a, [comb(n + i, i) * w * x for x in term(i + j, n + 1)])
+        for j, w in enumerate(self.right_weights()):
+            for i in range(n - j + 1):
+                a = add(a, [comb(m + i, i) * w * x for x in term(m + 1, i + j)])
+        return a
+
+
+# ---- the rounding steps
+
+
+def scaled(u, a, D):
+    """The greatest whole number not above u × a / D."""
+    return floor(Fraction(u * a, D))
+
+
+def half_sum(n, a, D, w):
+    """Of grade m = len(w) − 1 against n, with fraction a/D; of grade −1 it is 0."""
+    m = len(w) - 1
+    if m < 0:
+        return 0
+    g = [sum(comb(n + i - j, i - j) * w[j] for j in range(i + 1)) for i in range(m + 1)]
+    u = UNIT_OF_VALUE * g[m]
+    for i in range(m - 1, -1, -1):
+        u = scaled(u, a, D) + UNIT_OF_VALUE * g[i]
+    for _ in range(n + 1):
+        u = scaled(u, D - a, D)
+    return u
+
+
+def value(piece, r):
+    m, n, D = piece.m, piece.n, piece.D
+    return half_sum(n, r, D, piece.left_weights()) + half_sum(m, D - r, D, piece.right_weights())
+
+
+def trend(piece, r):
+    m, n, D = piece.m, piece.n, piece.D
+    left, right = piece.left_weights(), piece.right_weights()
+
+    def primed(w):
+        return [(j + 1) * w[j + 1] for j in range(len(w) - 1)]
+
+    y1 = half_sum(n, r, D, primed(left))
+    y2 = half_sum(m, D - r, D, primed(right))
+    k = sum(right[j] * (m + n - j + 1) * comb(m + n - j, n - j) for j in range(n + 1))
+    k -= sum(left[j] * (m + n - j + 1) * comb(m + n - j, m - j) for j in range(m + 1))
+    y3 = UNIT_OF_VALUE * k
+    for _ in range(m):
+        y3 = scaled(y3, r, D)
+    for _ in range(n):
+        y3 = scaled(y3, D - r, D)
+    return floor(Fraction(y1 - y2 + y3, piece.h))
+
+
+def total(piece):
+    """In 1/720,720 of a count × step: the exact integral over the piece, a whole number."""
+    water = UNIT_OF_WATER * integral(piece.blend(), piece.h)
+    hold(water.denominator == 1, "a total is not whole:", piece)
+    return int(water)
+
+
+# ---- what demand 3 says of one piece
+
+
+def hold_ends(piece):
+    """The Taylor coefficients of the blend at both ends are the knots' own C_j × h^j."""
+    a = piece.blend()
+    hold(len(a) == piece.m + piece.n + 2, "the blend has not m+n+2 coefficients:", piece)
+    for j, c in enumerate(piece.left):
+        hold(a[j] == c * piece.h**j, "left Taylor coefficient", j, piece)
+    for j, c in enumerate(piece.right):
+        hold(sum(comb(i, j) * x for i, x in enumerate(a)) == c * piece.h**j, "right Taylor coefficient", j, piece)
+
+
+def hold_total(piece):
+    """The total is h × the sum of a_i × 720,720/(i+1), each division without rest."""
+    for i in range(len(piece.blend())):
+        hold(UNIT_OF_WATER % (i + 1) == 0, i + 1, "does not divide", UNIT_OF_WATER)
+    parts = sum(a * (UNIT_OF_WATER // (i + 1)) for i, a in enumerate(piece.blend()))
+    hold(total(piece) == piece.h * parts, "total of", piece)
+
+
+def value_error(piece, r, v):
+    return UNIT_OF_VALUE * at(piece.blend(), Fraction(r, piece.D)) - v
+
+
+def trend_error(piece, r, z):
+    return UNIT_OF_VALUE * at(derivative(piece.blend()), Fraction(r, piece.D)) - piece.h * z
+
+
+def hold_distances(piece, r):
+    m, n, h = piece.m, piece.n, piece.h
+    hold(0 <= value_error(piece, r, value(piece, r)) < 2 * (m + n + 1), "distance of the value at", r, piece)
+    hold(-(m + n) <= trend_error(piece, r, trend(piece, r)) <= 2 * (m + n) + h - 1, "distance of the trend at", r, piece)
+
+
+def case(piece, r):
+    """Value and trend at distance r, and the total, with all that demand 3 says of them held."""
+    hold_ends(piece)
+    hold_total(piece)
+    hold_distances(piece, r)
+    return {"value": value(piece, r), "trend": trend(piece, r), "total": total(piece)}
+
+
+# ---- the check
+
+
+def only(j, grade):
+    """C_j = 1, the others 0."""
+    return tuple(int(i == j) for i in range(grade + 1))
+
+
+# The entries of "Scans with known results" that concern one piece: the piece, r, what is asked there and the answer.
+KNOWN_RESULTS = [
+    (Piece(1, (0, 0), (1, 0)), 128, "value", 32_768),
+    (Piece(1, (0, 0), (1, 0)), 128, "trend", 98_304),
+    (Piece(1, (0, 0), (1, 0)), 1, "value", 2),
+    (Piece(1, (0, 0), (-1, 0)), 1, "value", -3),
+    (Piece(2, (0, 0), (4, 0)), 256, "trend", 196_608),
+    (Piece(1, (1,), (0,)), 0, "total", 360_360),
+    (Piece(1, (0, 1), (0, 0)), 0, "total", 60_060),
+    (Piece(1, (0, 0), (0, 1)), 0, "total", -60_060),
+    (Piece(1, (1, 0), (0,)), 0, "total", 480_480),
+    (Piece(1, (0, 0, 1), (0, 0, 0)), 0, "total", 12_012),
+    (Piece(1, only(7, 7), (0,) * 8), 0, "total", 7),
+    (Piece(2, (1,), (0,)), 0, "value", 65_536),
+]
+
+
+def hold_known_results():
+    for piece, r, asked, expected in KNOWN_RESULTS:
+        found = case(piece, r)[asked]
+        hold(found == expected, asked, "at", r, "of", piece, "is", found, "and not", expected)
+    return len(KNOWN_RESULTS)
+
+
+def hold_formula_11():
+    """Formula (11) of 001 gives the integral at every order; (9), which prints (j+1)! for (j+1), does not from order 2 on."""
+    for m in range(GRADE_MAX + 1):
+        for n in range(GRADE_MAX + 1):
+            for j in range(m + 1):
+                exact = integral(Piece(1, only(j, m), (0,) * (n + 1)).blend(), 1)
+                common = Fraction(factorial(m + 1) * factorial(m + n - j + 1), factorial(m + n + 2) * factorial(m - j))
+                hold(exact == common / (j + 1), "formula (11) at", m, n, j)
+                hold((exact == common / factorial(j + 1)) == (j < 2), "formula (9) at", m, n, j)
+
+
+def hold_ends_of_bounds():
+    """The ends that the distances include are reached: the value's by an exact value, the trend's at grades 0 and 0."""
+    even, odd = Piece(2, (0,), (2,)), Piece(3, (0,), (2,))
+    hold(value_error(even, 0, value(even, 0)) == 0, "the value's lower end")
+    hold(trend_error(even, 0, trend(even, 0)) == 0, "the trend's lower end")
+    hold(trend_error(odd, 0, trend(odd, 0)) == odd.h - 1, "the trend's upper end")
+
+
+def extreme(chance, grade, h):
+    """Coefficients at the size rule's limits, of either sign, some of them 0."""
+    return tuple(chance.choice((-1, 0, 1)) * (SIZE_MAX // h**j) for j in range(grade + 1))
+
+
+def ordinary(chance, grade):
+    return tuple(chance.randint(-1000, 1000) for _ in range(grade + 1))
+
+
+def hold_sweep():
+    """All pairs of grades and all gaps, ends and interior, ordinary and extreme coefficients."""
+    chance = random.Random(1)
+    cases = 0
+    for m in range(GRADE_MAX + 1):
+        for n in range(GRADE_MAX + 1):
+            for h in range(1, GAP_MAX + 1):
+                for piece in (
+                    Piece(h, ordinary(chance, m), ordinary(chance, n)),
+                    Piece(h, extreme(chance, m, h), extreme(chance, n, h)),
+                ):
+                    for r in (0, chance.randint(1, piece.D - 1), piece.D):
+                        case(piece, r)
+                        cases += 1
+    return cases
+
+
+def check():
+    entries = hold_known_results()
+    hold_formula_11()
+    hold_ends_of_bounds()
+    cases = hold_sweep()
+    print(f"{entries} entries of \"Scans with known results\" held; {cases} further cases within their distances")
+
+
+COMMANDS = {"check": check}
+
+
+def main(words):
+    if len(words) != 1 or words[0] not in COMMANDS:
+        sys.exit(__doc__)
+    try:
+        COMMANDS[words[0]]()
+    except Broken as broken:
+        sys.exit(f"exact.py: {broken}")
+
+
+if __name__ == "__main__":
+    main(sys.argv[1:])
