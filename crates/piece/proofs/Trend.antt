@@ -50,8 +50,8 @@ upper-end k d h b = let e : 2 * k + h - 1 ≡ 2 * k + (h - 1) = omega arith in r
 pub trend-distance : (P : Piece) (r : ℕ) → 0 < P .h → m P ≤ 7 → n P ≤ 7 → r ≤ D P → TrendDistance P r (trend P r)
 unfolding trendError
 trend-distance P r h hm hn b = record {
-  atLeast = error-at-least (m P + n P) (omega arith) near (lower-end (m P + n P) (D P));
-  atMost = error-at-most (2 * (m P + n P) + P .h - 1) (omega arith) near (upper-end (m P + n P) (D P) (P .h) h);
+  atLeast = error-at-least _ (omega arith) near (lower-end (m P + n P) (D P));
+  atMost = error-at-most _ (omega arith) near (upper-end (m P + n P) (D P) (P .h) h);
 }
   where
     near : Near (D P) (N P) ((m P + n P) * (2 * 0 + (D P - 1)) + D P * 0) ((m P + n P) * (0 + 2 * (D P - 1)) + D P * (P .h - 1)) (pos valueUnit *ℤ at r (D P) (N P) (derivative (exactBlend P))) (pos (P .h) *ℤ trend P r)

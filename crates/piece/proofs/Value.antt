@@ -33,7 +33,7 @@ pub value-distance : (P : Piece) (r : ℕ) → 0 < P .h → r ≤ D P → ValueD
 unfolding valueError
 value-distance P r h b = record {
   atLeast = simp zero-mul at (error-at-least 0 (omega arith) near (omega arith));
-  below = error-below (2 * N P) (omega arith) near (mul-lt-mul-of-pos-left (omega arith) (omega arith));
+  below = error-below _ (omega arith) near (mul-lt-mul-of-pos-left (omega arith) (omega arith));
 }
   where
     near : Near (D P) (N P) (2 * N P * 0) (2 * N P * (D P - 1)) (pos valueUnit *ℤ at r (D P) (N P) (exactBlend P)) (value P r)
