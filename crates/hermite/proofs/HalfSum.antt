@@ -1,24 +1,27 @@
 -- The exact value and derivative at r/D are the unrounded half-sums on g_i. No bound on the grades.
 use mathlib.Core.Path.{_≡_, refl, sym, _∙_, ap, ap₂}
 use mathlib.Core.List.{[], _∷_}
-use Prim.Native.Nat.{ℕ, _+_, _*_, _-_, _^_, _≤_}
+use Prim.Native.Nat.{ℕ, zero, suc, _+_, _*_, _-_, _^_, _≤_}
+use native.Mathlib.Nat.{pow-zero}
 use native.Mathlib.Omega.{arith}
-use lib.IntN.{ℤ, pos, negsuc, _+ℤ_, _*ℤ_}
+use lib.IntN.{ℤ, pos, negsuc, _+ℤ_, _-ℤ_, _*ℤ_}
 use Rattle.integer.specs.Sum.{sum}
 use Rattle.integer.proofs.Laws.{*ℤ-left-comm, *ℤ-distrib, *ℤ-assoc}
-use Rattle.integer.proofs.Ring.{lets, solve, terms}
+use Rattle.integer.proofs.Ring.{lets, solve, terms, as-minus}
 use Rattle.integer.proofs.Sum.{sum-cong, sum-*, triangle}
 use Rattle.hermite.specs.Binomial.{binomial}
-use Rattle.hermite.specs.Polynomial.{Polynomial, _⊗_, _↑_, at}
+use Rattle.hermite.specs.Polynomial.{Polynomial, _⊗_, _↑_, at, derivative}
 use Rattle.hermite.specs.Blend.{s, 1-s, rightWeights, ofOrder, doubleSum, blend}
-use Rattle.hermite.specs.HalfSum.{valueUnit, g, unrounded}
-use Rattle.hermite.proofs.Linear.{of-sum, of-multiples}
-use Rattle.hermite.proofs.Length.{length-↑}
-use Rattle.hermite.proofs.At.{at-linear, at-raise, at-⊗, at-↑, at-s, at-1-s}
+use Rattle.hermite.specs.HalfSum.{valueUnit, g, unroundedDescent, unrounded}
+use Rattle.hermite.specs.Slope.{primed, K, lowered, lowerUnrounded, slope, unroundedSlope}
+use Rattle.hermite.proofs.Linear.{of-sum, of-multiples, of-slope}
+use Rattle.hermite.proofs.Length.{length-↑, length-slope}
+use Rattle.hermite.proofs.Slope.{derivative-is}
+use Rattle.hermite.proofs.At.{pow-one, at-linear, at-none, at-raise, at-⊗, at-↑, at-s, at-1-s}
 
 -- linear polynomials that come to X and Y
 module _ (r D X Y : ℕ) (x x′ y y′ : ℤ) (ex : at r D 1 (x ∷ x′ ∷ []) ≡ pos X) (ey : at r D 1 (y ∷ y′ ∷ []) ≡ pos Y) where
-  pub at-powers : (m i k : ℕ) → i ≤ m → at r D (m + k) ((x ∷ x′ ∷ []) ↑ i ⊗ (y ∷ y′ ∷ []) ↑ k) ≡ pos (Y ^ k * (X ^ i * D ^ (m - i)))
+  at-powers : (m i k : ℕ) → i ≤ m → at r D (m + k) ((x ∷ x′ ∷ []) ↑ i ⊗ (y ∷ y′ ∷ []) ↑ k) ≡ pos (Y ^ k * (X ^ i * D ^ (m - i)))
   at-powers m i k h =
       let e : m ≡ (m - i) + i = omega arith in
       at-⊗ r D m k ((x ∷ x′ ∷ []) ↑ i) ((y ∷ y′ ∷ []) ↑ k) (omega (arith, length-↑ x x′ i)) (omega (arith, length-↑ y y′ k)) ∙
@@ -30,7 +33,7 @@ module _ (r D X Y : ℕ) (x x′ y y′ : ℤ) (ex : at r D 1 (x ∷ x′ ∷ []
       turn : (d u v : ℕ) → d * u * v ≡ v * (u * d)
       turn d u v = omega arith
 
-  pub at-doubleSum : (m n : ℕ) (w : ℕ → ℤ) →
+  at-doubleSum : (m n : ℕ) (w : ℕ → ℤ) →
       at r D (m + (n + 1)) (doubleSum (x ∷ x′ ∷ []) (y ∷ y′ ∷ []) m n w) ≡ pos (Y ^ (n + 1)) *ℤ sum m (λ i. g n w i *ℤ pos (X ^ i * D ^ (m - i)))
   unfolding doubleSum ofOrder g
   at-doubleSum m n w =
@@ -70,16 +73,16 @@ module _ (r D X Y : ℕ) (x x′ y y′ : ℤ) (ex : at r D 1 (x ∷ x′ ∷ []
 
 -- multiplied by 65,536 that is the half-sum without its rounding
 scaled-up : (m n a D Y : ℕ) (w : ℕ → ℤ) → Y ≡ D - a → pos valueUnit *ℤ (pos (Y ^ (n + 1)) *ℤ sum m (λ i. g n w i *ℤ pos (a ^ i * D ^ (m - i)))) ≡ unrounded m n a D w
-unfolding unrounded
+unfolding unrounded unroundedDescent
 scaled-up m n a D Y w e =
     rw e (*ℤ-left-comm (pos valueUnit) (pos ((D - a) ^ (n + 1))) (sum m (λ i. g n w i *ℤ pos (a ^ i * D ^ (m - i))))) ∙
     ap (λ z. pos ((D - a) ^ (n + 1)) *ℤ z) (sym (sum-* m (pos valueUnit) (λ i. g n w i *ℤ pos (a ^ i * D ^ (m - i)))) ∙ sum-cong m _ _ (λ i h. sym (*ℤ-assoc (pos valueUnit) (g n w i) (pos (a ^ i * D ^ (m - i))))))
 
 module _ (r D : ℕ) (h : r ≤ D) where
-  pub left-value : (m n : ℕ) (w : ℕ → ℤ) → pos valueUnit *ℤ at r D (m + (n + 1)) (doubleSum s 1-s m n w) ≡ unrounded m n r D w
+  left-value : (m n : ℕ) (w : ℕ → ℤ) → pos valueUnit *ℤ at r D (m + (n + 1)) (doubleSum s 1-s m n w) ≡ unrounded m n r D w
   left-value m n w = ap (λ z. pos valueUnit *ℤ z) (at-doubleSum r D r (D - r) (pos 0) (pos 1) (pos 1) (negsuc 0) (at-s r D) (at-1-s r D h) m n w) ∙ scaled-up m n r D (D - r) w refl
 
-  pub right-value : (m n : ℕ) (w : ℕ → ℤ) → pos valueUnit *ℤ at r D (m + (n + 1)) (doubleSum 1-s s m n w) ≡ unrounded m n (D - r) D w
+  right-value : (m n : ℕ) (w : ℕ → ℤ) → pos valueUnit *ℤ at r D (m + (n + 1)) (doubleSum 1-s s m n w) ≡ unrounded m n (D - r) D w
   right-value m n w = ap (λ z. pos valueUnit *ℤ z) (at-doubleSum r D (D - r) r (pos 1) (negsuc 0) (pos 0) (pos 1) (at-1-s r D h) (at-s r D) m n w) ∙ scaled-up m n (D - r) D r w (omega arith)
 
   -- 65,536 × the blend at r/D, multiplied by D^(m+n+1)
@@ -91,3 +94,46 @@ module _ (r D : ℕ) (h : r ≤ D) where
       ap (λ z. pos valueUnit *ℤ z) (at-linear r D (m + n + 1) .sums (doubleSum s 1-s m n p) (doubleSum 1-s s n m (rightWeights q))) ∙
       *ℤ-distrib (pos valueUnit) (at r D (m + n + 1) (doubleSum s 1-s m n p)) (at r D (m + n + 1) (doubleSum 1-s s n m (rightWeights q))) ∙
       ap₂ (λ u v. u +ℤ v) (ap (λ N. pos valueUnit *ℤ at r D N (doubleSum s 1-s m n p)) e ∙ left-value m n p) (ap (λ N. pos valueUnit *ℤ at r D N (doubleSum 1-s s n m (rightWeights q))) f ∙ right-value n m (rightWeights q))
+
+  -- Y1 and Y2; of grade −1 both sides are 0
+  lowered-value : (x y : Polynomial) (a : ℕ) → ((m n : ℕ) (w : ℕ → ℤ) → pos valueUnit *ℤ at r D (m + (n + 1)) (doubleSum x y m n w) ≡ unrounded m n a D w) →
+      (m n : ℕ) (w : ℕ → ℤ) → pos valueUnit *ℤ at r D (m + n) (lowered x y m n w) ≡ lowerUnrounded m n a D w
+  unfolding lowered lowerUnrounded
+  lowered-value x y a is zero n w = ap (λ z. pos valueUnit *ℤ z) (at-none r D (0 + n))
+  lowered-value x y a is (suc m) n w =
+      let e : suc m + n ≡ m + (n + 1) = omega arith in
+      ap (λ N. pos valueUnit *ℤ at r D N (doubleSum x y m n (primed w))) e ∙ is m n (primed w)
+
+  -- Y3
+  last-value : (m n : ℕ) (k : ℤ) → pos valueUnit *ℤ (k *ℤ at r D (m + n) (s ↑ m ⊗ 1-s ↑ n)) ≡ pos ((D - r) ^ n) *ℤ (pos (r ^ m) *ℤ (pos valueUnit *ℤ k))
+  last-value m n k =
+      ap (λ z. pos valueUnit *ℤ (k *ℤ z)) (at-powers r D r (D - r) (pos 0) (pos 1) (pos 1) (negsuc 0) (at-s r D) (at-1-s r D h) m m n (omega arith) ∙ ap (λ x. pos ((D - r) ^ n * x)) whole) ∙
+      regroup (pos valueUnit) k (pos ((D - r) ^ n)) (pos (r ^ m))
+    where
+      whole : r ^ m * D ^ (m - m) ≡ r ^ m
+      whole = let e : m - m ≡ 0 = omega arith in rw (e, pow-zero) (omega arith)
+
+      regroup : (σ k y x : ℤ) → σ *ℤ (k *ℤ (y *ℤ x)) ≡ y *ℤ (x *ℤ (σ *ℤ k))
+      regroup σ k y x = lets (σ ∷ k ∷ y ∷ x ∷ []) (λ ρ v. simp (v 0, v 1, v 2, v 3, terms) (solve ρ _ _ tt))
+
+  slope-value : (m n : ℕ) (p q : ℕ → ℤ) → pos valueUnit *ℤ at r D (m + n) (slope m n p q) ≡ unroundedSlope m n r D p q
+  unfolding unroundedSlope
+  slope-value m n p q =
+      let e : m + n ≡ n + m = omega arith in
+      ap (λ z. pos valueUnit *ℤ z) (of-slope _ (at-linear r D (m + n)) m n p q) ∙
+      regroup (pos valueUnit) (at r D (m + n) (lowered s 1-s m n p)) (at r D (m + n) (lowered 1-s s n m (rightWeights q))) (K m n p q *ℤ at r D (m + n) (s ↑ m ⊗ 1-s ↑ n)) ∙
+      ap₂ (λ u v. u +ℤ v)
+      (ap₂ (λ u v. u -ℤ v) (lowered-value s 1-s r left-value m n p)
+      (ap (λ N. pos valueUnit *ℤ at r D N (lowered 1-s s n m (rightWeights q))) e ∙ lowered-value 1-s s (D - r) right-value n m (rightWeights q)))
+      (last-value m n (K m n p q))
+    where
+      regroup : (σ a b c : ℤ) → σ *ℤ (a +ℤ negsuc 0 *ℤ b +ℤ c) ≡ σ *ℤ a -ℤ σ *ℤ b +ℤ σ *ℤ c
+      regroup σ a b c = lets (σ ∷ a ∷ b ∷ c ∷ []) (λ ρ v. simp (v 0, v 1, v 2, v 3, terms, as-minus ρ) (solve ρ _ _ tt))
+
+  -- 65,536 × the derivative at r/D, multiplied by D^(m+n+1), for grades 0 to 7
+  pub derivative-value : (m n : ℕ) → m ≤ 7 → n ≤ 7 → (p q : ℕ → ℤ) → pos valueUnit *ℤ at r D (m + n + 1) (derivative (blend m n p q)) ≡ pos D *ℤ unroundedSlope m n r D p q
+  derivative-value m n hm hn p q =
+      let e : m + n + 1 ≡ 1 + (m + n) = omega arith in
+      ap₂ (λ N a. pos valueUnit *ℤ at r D N a) e (derivative-is m n hm hn p q) ∙
+      ap (λ x. pos valueUnit *ℤ x) (at-raise r D 1 (m + n) (slope m n p q) (omega (arith, length-slope m n p q)) ∙ ap (λ d. pos d *ℤ at r D (m + n) (slope m n p q)) (pow-one D)) ∙
+      *ℤ-left-comm (pos valueUnit) (pos D) (at r D (m + n) (slope m n p q)) ∙ ap (λ x. pos D *ℤ x) (slope-value m n p q)

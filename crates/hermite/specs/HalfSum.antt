@@ -12,6 +12,10 @@ valueUnit = 65536
 unfoldable pub g : ℕ → (ℕ → ℤ) → ℕ → ℤ
 g n w i = sum i (λ j. pos (binomial (n + i - j) (i - j)) *ℤ w j)
 
--- steps 2 and 3 without rounding, multiplied by D^(m+n+1)
+-- step 2 on any G_i, without rounding and multiplied by D^m: the sum of 65,536 × G_i × a^i × D^(m−i)
+unfoldable pub unroundedDescent : (ℕ → ℤ) → ℕ → ℕ → ℕ → ℤ
+unroundedDescent G a D m = sum m (λ i. pos valueUnit *ℤ G i *ℤ pos (a ^ i * D ^ (m - i)))
+
+-- the half-sum without rounding, multiplied by D^(m+n+1): step 3 multiplies by (D−a)^(n+1)
 unfoldable pub unrounded : ℕ → ℕ → ℕ → ℕ → (ℕ → ℤ) → ℤ
-unrounded m n a D w = pos ((D - a) ^ (n + 1)) *ℤ sum m (λ i. pos valueUnit *ℤ g n w i *ℤ pos (a ^ i * D ^ (m - i)))
+unrounded m n a D w = pos ((D - a) ^ (n + 1)) *ℤ unroundedDescent (g n w) a D m

@@ -4,5 +4,6 @@ pub mod HalfSum
 pub mod Value
 pub mod Slope
 pub mod Trend
+pub mod Taylor
 pub mod Water
 pub mod KnownResults

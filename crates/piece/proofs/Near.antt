@@ -3,12 +3,12 @@
 use mathlib.Core.Path.{_≡_, refl, sym, _∙_, ap, ap₂}
 use mathlib.Core.List.{[], _∷_}
 use Prim.Native.Nat.{ℕ, suc, _+_, _*_, _^_, _≤_, _<_}
-use native.Mathlib.Nat.{pow-suc, one-le-pow, le-trans, mul-le-mul-left, mul-le-mul-right, le-of-mul-le-mul-left, lt-of-mul-lt-mul-left, mul-lt-mul-of-pos-right}
+use native.Mathlib.Nat.{pow-zero, pow-suc, one-le-pow, le-refl, le-trans, mul-le-mul-left, mul-le-mul-right, le-of-mul-le-mul-left, lt-of-mul-lt-mul-left, mul-lt-mul-of-pos-right}
 use native.Mathlib.Omega.{arith}
-use lib.IntN.{ℤ, pos, negℤ, _+ℤ_, _-ℤ_, _*ℤ_, +ℤ-comm}
+use lib.IntN.{ℤ, pos, negℤ, one, _+ℤ_, _-ℤ_, _*ℤ_, +ℤ-comm}
 use lib.Signed.{_≤ℤ_, _<ℤ_}
-use Rattle.integer.proofs.Laws.{+ℤ-interchange, moved, *ℤ-distrib}
-use Rattle.integer.proofs.Difference.{_⊖_, minus-⊖, differences}
+use Rattle.integer.proofs.Laws.{one-*ℤ, +ℤ-interchange, moved, *ℤ-distrib}
+use Rattle.integer.proofs.Difference.{_⊖_, as-⊖, minus-⊖, differences}
 use Rattle.integer.proofs.Ring.{lets, solve, terms}
 
 -- Z = u × D^N + over − under, with under at most e₁/D and over at most e₂/D of D^N
@@ -40,6 +40,11 @@ near-as {D} {N} i h k e near = rw (← i, ← e) (record {
   under-small = le-trans (near .under-small) (mul-le-mul-right (D ^ N) h);
   over-small = le-trans (near .over-small) (mul-le-mul-right (D ^ N) k);
 })
+
+-- and before the first scaling there is none
+pub near-start : (D : ℕ) (u : ℤ) → Near D 0 0 0 u u
+unfolding one
+near-start D u = near-as refl (le-refl 0) (le-refl 0) (rw pow-zero (one-*ℤ u)) (near-exact D 0 u)
 
 -- one more scaling
 pub near-scaled : {D N c₁ c₂ e₁ e₂ : ℕ} (a : ℕ) {Z u v : ℤ} → a ≤ D → Near D N c₁ c₂ Z u → Rounding D e₁ e₂ (u *ℤ pos a) v → Near D (suc N) (c₁ + e₁) (c₂ + e₂) (pos a *ℤ Z) v
@@ -90,25 +95,25 @@ near-neg {D} {N} {Z = Z} {u = u} near = record {
     turned : (z i d u o : ℤ) → z +ℤ i ≡ d *ℤ u +ℤ o → negℤ z +ℤ o ≡ d *ℤ negℤ u +ℤ i
     turned z i d u o e = ap (λ t. negℤ t +ℤ o) (moved z i (d *ℤ u +ℤ o) e) ∙ regroup d u o i
 
--- y divided by h, where h × z is compared: both sides are multiplied by one more D
-pub near-divided : {D N c₁ c₂ h e₁ e₂ : ℕ} {Z y z : ℤ} → Near D N c₁ c₂ Z y → Rounding h e₁ e₂ y z → Near D (suc N) (c₁ + D * e₁) (c₂ + D * e₂) (pos D *ℤ Z) (pos h *ℤ z)
-near-divided {D} {N} {c₁} {c₂} {h} {e₁} {e₂} {Z} {y} {z} near once = record {
-  under = D * near .under + D ^ N * D * once .under;
-  over = D * near .over + D ^ N * D * once .over;
-  equation = rw pow-suc (both (pos D) Z (pos (near .under)) (pos (D ^ N)) y (pos (near .over)) (pos h) z (pos (once .over)) (pos (once .under)) (near .equation) (once .equation));
-  under-small = rw pow-suc (bound (D ^ N) c₁ e₁ (near .under) (once .under) (near .under-small) (once .under-small));
-  over-small = rw pow-suc (bound (D ^ N) c₂ e₂ (near .over) (once .over) (near .over-small) (once .over-small));
+-- a division with its error, multiplied by D
+times : {h e₁ e₂ : ℕ} (D : ℕ) {y z : ℤ} → Rounding h e₁ e₂ y z → Rounding D (D * e₁) (D * e₂) (y *ℤ pos D) (pos h *ℤ z)
+times {h} D {y} {z} once = record {
+  under = D * once .under;
+  over = D * once .over;
+  equation = multiplied y (pos (once .under)) (pos h *ℤ z) (pos (once .over)) (pos D) (once .equation);
+  under-small = mul-le-mul-left D (once .under-small);
+  over-small = mul-le-mul-left D (once .over-small);
 }
   where
-    regroup : (D d y o i h z p : ℤ) → D *ℤ ((d *ℤ y +ℤ o) -ℤ i) +ℤ (D *ℤ i +ℤ (d *ℤ D) *ℤ ((h *ℤ z +ℤ p) -ℤ y)) ≡ (d *ℤ D) *ℤ (h *ℤ z) +ℤ (D *ℤ o +ℤ (d *ℤ D) *ℤ p)
-    regroup D d y o i h z p = lets (D ∷ d ∷ y ∷ o ∷ i ∷ h ∷ z ∷ p ∷ []) (λ ρ v. simp (v 0, v 1, v 2, v 3, v 4, v 5, v 6, v 7, terms) (solve ρ _ _ tt))
+    apart : (y i D : ℤ) → y *ℤ D +ℤ D *ℤ i ≡ D *ℤ (y +ℤ i)
+    apart y i D = lets (y ∷ i ∷ D ∷ []) (λ ρ v. simp (v 0, v 1, v 2, terms) (solve ρ _ _ tt))
 
-    both : (D Z i d y o h z p k : ℤ) → Z +ℤ i ≡ d *ℤ y +ℤ o → y +ℤ k ≡ h *ℤ z +ℤ p → D *ℤ Z +ℤ (D *ℤ i +ℤ (d *ℤ D) *ℤ k) ≡ (d *ℤ D) *ℤ (h *ℤ z) +ℤ (D *ℤ o +ℤ (d *ℤ D) *ℤ p)
-    both D Z i d y o h z p k e f =
-        ap₂ (λ s t. D *ℤ s +ℤ (D *ℤ i +ℤ (d *ℤ D) *ℤ t)) (moved Z i (d *ℤ y +ℤ o) e) (moved k y (h *ℤ z +ℤ p) (+ℤ-comm k y ∙ f)) ∙ regroup D d y o i h z p
+    multiplied : (y i x o D : ℤ) → y +ℤ i ≡ x +ℤ o → y *ℤ D +ℤ D *ℤ i ≡ D *ℤ x +ℤ D *ℤ o
+    multiplied y i x o D e = apart y i D ∙ ap (λ t. D *ℤ t) e ∙ *ℤ-distrib D x o
 
-    bound : (d c e x y : ℕ) → D * x ≤ c * d → y ≤ e → D * (D * x + d * D * y) ≤ (c + D * e) * (d * D)
-    bound d c e x y f g = omega (arith, mul-le-mul-left D f, mul-le-mul-left (D * d * D) g)
+-- y divided by h, where h × z is compared: both sides are multiplied by one more D
+pub near-divided : {D N c₁ c₂ h e₁ e₂ : ℕ} {Z y z : ℤ} → Near D N c₁ c₂ Z y → Rounding h e₁ e₂ y z → Near D (suc N) (c₁ + D * e₁) (c₂ + D * e₂) (pos D *ℤ Z) (pos h *ℤ z)
+near-divided {D} near once = near-scaled D (le-refl D) near (times D once)
 
 -- ---- what the error is, as an order: bounds in parts of D × D^N come to bounds in parts of D^N
 
@@ -135,3 +140,9 @@ module _ {D N e₁ e₂ : ℕ} {Z u : ℤ} (k : ℕ) (positive : 0 < D) (near : 
 
   pub error-below : e₂ < k * D → (Z -ℤ pos (D ^ N) *ℤ u) <ℤ pos (k * D ^ N)
   error-below b = rw (error-is near) (simp differences (omega (arith, below D k e₂ (D ^ N) (near .over) (one-le-pow N D positive) b (near .over-small))))
+
+-- with nothing under, the error is at least what 0 is
+pub error-from-zero : {D N e₂ : ℕ} {Z u : ℤ} (x : ℤ) → 0 < D → Near D N 0 e₂ Z u → x ≤ℤ pos 0 → x ≤ℤ (Z -ℤ pos (D ^ N) *ℤ u)
+error-from-zero {D} {N} x h near =
+    let none : near .under ≤ 0 * D ^ N = at-most D 0 0 (D ^ N) (near .under) h (omega arith) (near .under-small) in
+    rw (error-is near, as-⊖ x) (simp differences (omega arith))

@@ -1,16 +1,12 @@
 -- Demand 3's distance of a trend: 65,536 × the exact derivative over the piece − h × z is from −(m+n) to 2(m+n)+h−1.
-use mathlib.Core.Path.{_≡_, sym, _∙_, ap, ap₂}
+use mathlib.Core.Path.{sym}
 use Prim.Native.Nat.{ℕ, _+_, _*_, _-_, _≤_, _<_}
-use native.Mathlib.Nat.{mul-le-mul-left}
+use native.Mathlib.Nat.{mul-le-mul-left, mul-le-mul-right}
 use native.Mathlib.Omega.{arith}
 use lib.IntN.{ℤ, pos, _+ℤ_, _-ℤ_, _*ℤ_}
-use Rattle.integer.proofs.Laws.{*ℤ-left-comm}
-use Rattle.hermite.specs.Polynomial.{Polynomial, at, derivative}
+use Rattle.hermite.specs.Polynomial.{at, derivative}
 use Rattle.hermite.specs.HalfSum.{valueUnit}
-use Rattle.hermite.specs.Slope.{slope}
-use Rattle.hermite.proofs.At.{pow-one, at-raise}
-use Rattle.hermite.proofs.Length.{length-slope}
-use Rattle.hermite.proofs.Slope.{derivative-is}
+use Rattle.hermite.proofs.HalfSum.{derivative-value}
 use Rattle.piece.specs.Piece.{Piece, m, n, p, q, D, exactBlend}
 use Rattle.piece.specs.Scaling.{rounded}
 use Rattle.piece.specs.Value.{N}
@@ -24,18 +20,10 @@ near-trend : (P : Piece) (r e₁ e₂ f₁ f₂ : ℕ) → m P ≤ 7 → n P ≤
     Near (D P) (N P) ((m P + n P) * (2 * e₁ + e₂) + D P * f₁) ((m P + n P) * (e₁ + 2 * e₂) + D P * f₂) (pos valueUnit *ℤ at r (D P) (N P) (derivative (exactBlend P))) (pos (P .h) *ℤ trend P r)
 unfolding trend Y1 Y2 Y3 exactBlend
 near-trend P r e₁ e₂ f₁ f₂ hm hn once divided b =
-    near-as (omega arith) (omega arith) (omega arith) (sym over-piece)
-    (near-divided (near-slope (D P) e₁ e₂ once r (m P) (n P) (p P) (q P) b) (divided (Y1 P r -ℤ Y2 P r +ℤ Y3 P r)))
-  where
-    line : Polynomial
-    line = slope (m P) (n P) (p P) (q P)
+    near-as (omega arith) (omega arith) (omega arith) (sym (derivative-value r (D P) b (m P) (n P) hm hn (p P) (q P)))
+    (near-divided (near-slope (D P) e₁ e₂ once (m P) (n P) r (p P) (q P) b) (divided (Y1 P r -ℤ Y2 P r +ℤ Y3 P r)))
 
-    over-piece : pos valueUnit *ℤ at r (D P) (N P) (derivative (exactBlend P)) ≡ pos (D P) *ℤ (pos valueUnit *ℤ at r (D P) (m P + n P) line)
-    over-piece =
-        let e : N P ≡ 1 + (m P + n P) = omega arith in
-        ap₂ (λ N a. pos valueUnit *ℤ at r (D P) N a) e (derivative-is (m P) (n P) hm hn (p P) (q P)) ∙
-        ap (λ x. pos valueUnit *ℤ x) (at-raise r (D P) 1 (m P + n P) line (omega (arith, length-slope (m P) (n P) (p P) (q P))) ∙ ap (λ d. pos d *ℤ at r (D P) (m P + n P) line) (pow-one (D P))) ∙
-        *ℤ-left-comm (pos valueUnit) (pos (D P)) (at r (D P) (m P + n P) line)
+-- ---- rounding down, each error is at least 0 and at most (D−1)/D, and that of the division by h at most h−1
 
 less : (k d : ℕ) → k * (d - 1) ≤ k * d
 less k d = mul-le-mul-left k (omega arith)
@@ -43,15 +31,14 @@ less k d = mul-le-mul-left k (omega arith)
 lower-end : (k d : ℕ) → k * (2 * 0 + (d - 1)) + d * 0 ≤ k * d
 lower-end k d = omega (arith, less k d)
 
-upper-end : (k d h : ℕ) → 0 < h → k * (0 + 2 * (d - 1)) + d * (h - 1) ≤ (2 * k + h - 1) * d
-upper-end k d h b = let e : 2 * k + h - 1 ≡ 2 * k + (h - 1) = omega arith in rw e (omega (arith, less k d))
+upper-end : (k d h x : ℕ) → 2 * k + (h - 1) ≤ x → k * (0 + 2 * (d - 1)) + d * (h - 1) ≤ x * d
+upper-end k d h x b = omega (arith, less k d, mul-le-mul-right d b)
 
--- rounding down, each error is at least 0 and at most (D−1)/D, and that of the division by h at most h−1
 pub trend-distance : (P : Piece) (r : ℕ) → 0 < P .h → m P ≤ 7 → n P ≤ 7 → r ≤ D P → TrendDistance P r (trend P r)
 unfolding trendError
 trend-distance P r h hm hn b = record {
-  atLeast = error-at-least _ (omega arith) near (lower-end (m P + n P) (D P));
-  atMost = error-at-most _ (omega arith) near (upper-end (m P + n P) (D P) (P .h) h);
+  atLeast = error-at-least (m P + n P) (omega arith) near (lower-end (m P + n P) (D P));
+  atMost = error-at-most _ (omega arith) near (upper-end (m P + n P) (D P) (P .h) _ (omega arith));
 }
   where
     near : Near (D P) (N P) ((m P + n P) * (2 * 0 + (D P - 1)) + D P * 0) ((m P + n P) * (0 + 2 * (D P - 1)) + D P * (P .h - 1)) (pos valueUnit *ℤ at r (D P) (N P) (derivative (exactBlend P))) (pos (P .h) *ℤ trend P r)
