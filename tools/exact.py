@@ -3,10 +3,11 @@
 
 Written from the document, in its letters, and not from the Rattle text: the blend is formula (1)
 multiplied out, the derivative comes by differentiating it and the total by integrating it. Every case
-that is made has its distances, its total and its Taylor coefficients checked.
+that is made has its distances, its total and its Taylor coefficients checked. The rounding steps
+themselves are held against the document's known results here, and against the engine where it runs.
 
-  exact.py check    hold the entries of "Scans with known results" that concern one piece, and a sweep
-                    over all grades and gaps, against the document
+  exact.py check    hold the entries of "Scans with known results" that concern one piece, the integral
+                    weights of source document 001, and a sweep over all grades and gaps
 """
 import random
 import sys
@@ -245,15 +246,20 @@ def hold_known_results():
     return len(KNOWN_RESULTS)
 
 
-def hold_formula_11():
-    """Formula (11) of 001 gives the integral at every order; (9), which prints (j+1)! for (j+1), does not from order 2 on."""
+def hold_integral_weights():
+    """Formulas (11) and (12) of 001 give the integral at every order; (9), which prints (j+1)! for (j+1), does not from order 2 on."""
     for m in range(GRADE_MAX + 1):
         for n in range(GRADE_MAX + 1):
+            c = Fraction(m + 1, m + n + 2)
             for j in range(m + 1):
-                exact = integral(Piece(1, only(j, m), (0,) * (n + 1)).blend(), 1)
-                common = Fraction(factorial(m + 1) * factorial(m + n - j + 1), factorial(m + n + 2) * factorial(m - j))
-                hold(exact == common / (j + 1), "formula (11) at", m, n, j)
-                hold((exact == common / factorial(j + 1)) == (j < 2), "formula (9) at", m, n, j)
+                if j:
+                    c *= Fraction(j * (m - j + 1), (j + 1) * (m + n + 2 - j))
+                left = integral(Piece(1, only(j, m), (0,) * (n + 1)).blend(), 1)
+                right = integral(Piece(1, (0,) * (n + 1), only(j, m)).blend(), 1)
+                hold(left == c, "formula (11) at", m, n, j)
+                hold(right == (-1) ** j * c, "formula (12) at", n, m, j)
+                printed = Fraction(factorial(m + 1) * factorial(m + n - j + 1), factorial(m + n + 2) * factorial(m - j) * factorial(j + 1))
+                hold((printed == c) == (j < 2), "formula (9) at", m, n, j)
 
 
 def hold_ends_of_bounds():
@@ -292,7 +298,7 @@ def hold_sweep():
 
 def check():
     entries = hold_known_results()
-    hold_formula_11()
+    hold_integral_weights()
     hold_ends_of_bounds()
     cases = hold_sweep()
     print(f"{entries} entries of \"Scans with known results\" held; {cases} further cases within their distances")
