@@ -1,4 +1,4 @@
--- The exact value and derivative at r/D are the unrounded half-sums on g_i. No bound on the grades.
+-- The exact value and derivative at r/D are the unrounded half-sums on g_i. Only `derivative-value` needs a bound on the grades.
 use mathlib.Core.Path.{_≡_, refl, sym, _∙_, ap, ap₂}
 use mathlib.Core.List.{[], _∷_}
 use Prim.Native.Nat.{ℕ, zero, suc, _+_, _*_, _-_, _^_, _≤_}

@@ -41,7 +41,7 @@ near-as {D} {N} i h k e near = rw (← i, ← e) (record {
   over-small = le-trans (near .over-small) (mul-le-mul-right (D ^ N) k);
 })
 
--- and before the first scaling there is none
+-- before the first scaling there is no error
 pub near-start : (D : ℕ) (u : ℤ) → Near D 0 0 0 u u
 unfolding one
 near-start D u = near-as refl (le-refl 0) (le-refl 0) (rw pow-zero (one-*ℤ u)) (near-exact D 0 u)
