@@ -28,6 +28,13 @@ dot-scaled (y ∷ a) x φ ψ h =
     ap₂ (λ u v. u +ℤ v) (ap (λ z. y *ℤ z) (h zero (omega arith)) ∙ *ℤ-left-comm y x (ψ zero)) (dot-scaled a x _ _ (λ i b. h (suc i) (omega arith))) ∙
     sym (*ℤ-distrib x (y *ℤ ψ zero) (dot a (λ i. ψ (suc i))))
 
+-- the factors r^i × D^(N−i): the first, and each by the one before it
+pub power-first : (r D N : ℕ) → r ^ 0 * D ^ (suc N - 0) ≡ D ^ suc N
+power-first r D N = simp (pow-zero, sub-zero) (omega arith)
+
+pub power-next : (r D N i : ℕ) → r ^ suc i * D ^ (suc N - suc i) ≡ r * (r ^ i * D ^ (N - i))
+power-next r D N i = let e : suc N - suc i ≡ N - i = omega arith in rw (e, pow-suc) (omega arith)
+
 -- multiplied by a higher power of D
 pub at-raise : (r D k N : ℕ) (a : Polynomial) → length a ≤ suc N → at r D (k + N) a ≡ pos (D ^ k) *ℤ at r D N a
 unfolding at
@@ -47,13 +54,7 @@ at-constant r D x = let e : r ^ 0 * D ^ 0 ≡ 1 = simp unary-clauses in rw e (+�
 -- x + s a
 at-cons : (r D N : ℕ) (x : ℤ) (a : Polynomial) → at r D (suc N) (x ∷ a) ≡ x *ℤ pos (D ^ suc N) +ℤ pos r *ℤ at r D N a
 unfolding at dot
-at-cons r D N x a = ap₂ (λ u v. x *ℤ pos u +ℤ v) first (dot-scaled a (pos r) _ _ (λ i b. ap pos (lower i)))
-  where
-    first : r ^ 0 * D ^ (suc N - 0) ≡ D ^ suc N
-    first = simp (pow-zero, sub-zero) (omega arith)
-
-    lower : (i : ℕ) → r ^ suc i * D ^ (suc N - suc i) ≡ r * (r ^ i * D ^ (N - i))
-    lower i = let e : suc N - suc i ≡ N - i = omega arith in rw (e, pow-suc) (omega arith)
+at-cons r D N x a = ap₂ (λ u v. x *ℤ pos u +ℤ v) (power-first r D N) (dot-scaled a (pos r) _ _ (λ i b. ap pos (power-next r D N i)))
 
 at-shift : (r D N : ℕ) (a : Polynomial) → at r D (suc N) (pos 0 ∷ a) ≡ pos r *ℤ at r D N a
 at-shift r D N a = at-cons r D N (pos 0) a ∙ ap (λ z. z +ℤ pos r *ℤ at r D N a) (zero-*ℤ (pos (D ^ suc N))) ∙ +ℤ-idl (pos r *ℤ at r D N a)

@@ -15,7 +15,7 @@ use Rattle.hermite.specs.Polynomial.{_⊕_, _⊙_, _⊗_, _↑_, coeffic
 use Rattle.hermite.specs.Blend.{s, 1-s, rightWeights, blend}
 use Rattle.hermite.specs.Slope.{kappa, sumK, K, slope}
 use Rattle.hermite.proofs.Linear.{Linear, coefficient-linear, coefficient-derivative, loweredBase, of-blend, of-lowered, of-slope}
-use Rattle.hermite.proofs.Bases.{left-bases, right-bases}
+use Rattle.hermite.proofs.Bases.{left-base, right-base}
 use Rattle.hermite.proofs.Length.{length-blend, length-derivative, length-slope}
 
 derivative-linear : (k : ℕ) → Linear (λ a. coefficient (derivative a) k)
@@ -44,8 +44,8 @@ module _ (m n : ℕ) (hm : m ≤ 7) (hn : n ≤ 7) (p q : ℕ → ℤ) where
   same-coefficient k h =
       of-blend _ (derivative-linear k) m n p q ∙
       ap₂ (λ x y. x +ℤ y)
-      (half m (pos 1) e p _ lower (λ j. pos (kappa m n j)) (λ j b. left-bases m hm n hn j b .1 .1 .1 k h))
-      (half n (negsuc 0) e (rightWeights q) _ lower′ (λ j. pos (kappa n m j)) (λ j b. right-bases m hm n hn j b .1 .1 .1 k h)) ∙
+      (half m (pos 1) e p _ lower (λ j. pos (kappa m n j)) (λ j b. left-base m n hm hn j b .slope k h))
+      (half n (negsuc 0) e (rightWeights q) _ lower′ (λ j. pos (kappa n m j)) (λ j b. right-base m n hm hn j b .slope k h)) ∙
       gathered (sum m (λ j. p j *ℤ lower j)) (sum n (λ j. rightWeights q j *ℤ lower′ j)) (sumK m n p) (sumK n m (rightWeights q)) e ∙ sym parts
     where
       e : ℤ

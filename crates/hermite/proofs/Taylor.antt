@@ -11,7 +11,7 @@ use Rattle.integer.proofs.Ring.{lets, solve, terms}
 use Rattle.hermite.specs.Binomial.{binomial, sign}
 use Rattle.hermite.specs.Blend.{rightWeights, blend, taylorLeft, taylorRight}
 use Rattle.hermite.proofs.Linear.{coefficient-linear, dot-linear, of-blend}
-use Rattle.hermite.proofs.Bases.{δ, left-bases, right-bases}
+use Rattle.hermite.proofs.Bases.{δ, left-base, right-base}
 
 vanishes : (m : ℕ) (w v : ℕ → ℤ) → ((j : ℕ) → j ≤ m → v j ≡ pos 0) → sum m (λ j. w j *ℤ v j) ≡ pos 0
 vanishes m w v e = sum-0 m _ (λ j h. ap (λ x. w j *ℤ x) (e j h) ∙ *ℤ-zero (w j))
@@ -35,7 +35,7 @@ module _ (m n : ℕ) (hm : m ≤ 7) (hn : n ≤ 7) (p q : ℕ → ℤ) where
   unfolding taylorLeft one
   taylor-left k h =
       of-blend _ (coefficient-linear k) m n p q ∙
-      ap₂ (λ x y. x +ℤ y) (picks m k (pos 1) p _ h (λ j b. left-bases m hm n hn j b .0 k h)) (vanishes n (rightWeights q) _ (λ j b. right-bases m hm n hn j b .0 k h)) ∙
+      ap₂ (λ x y. x +ℤ y) (picks m k (pos 1) p _ h (λ j b. left-base m n hm hn j b .left k h)) (vanishes n (rightWeights q) _ (λ j b. right-base m n hm hn j b .left k h)) ∙
       +ℤ-idr (p k *ℤ pos 1) ∙ *ℤ-one (p k)
 
   -- and at the right end q_0 to q_n
@@ -43,5 +43,5 @@ module _ (m n : ℕ) (hm : m ≤ 7) (hn : n ≤ 7) (p q : ℕ → ℤ) where
   unfolding taylorRight rightWeights
   taylor-right k h =
       of-blend _ (dot-linear (λ i. pos (binomial i k))) m n p q ∙
-      ap₂ (λ x y. x +ℤ y) (vanishes m p _ (λ j b. left-bases m hm n hn j b .1 .0 k h)) (picks n k (sign k) (rightWeights q) _ h (λ j b. right-bases m hm n hn j b .1 .0 k h)) ∙
+      ap₂ (λ x y. x +ℤ y) (vanishes m p _ (λ j b. left-base m n hm hn j b .right k h)) (picks n k (sign k) (rightWeights q) _ h (λ j b. right-base m n hm hn j b .right k h)) ∙
       +ℤ-idl (rightWeights q k *ℤ sign k) ∙ twice-signed k (q k)

@@ -10,7 +10,7 @@ use Rattle.integer.proofs.Claim.{_≗_, upto, sound}
 use Rattle.hermite.specs.Blend.{rightWeights, blend}
 use Rattle.hermite.specs.Water.{waterUnit, integral, c, weightedSum}
 use Rattle.hermite.proofs.Linear.{dot-linear, of-blend}
-use Rattle.hermite.proofs.Bases.{left-bases, right-bases}
+use Rattle.hermite.proofs.Bases.{left-base, right-base}
 
 -- the exact integral is the weighted sum of formulas (11) to (13)
 pub integral-is : (m n : ℕ) → m ≤ 7 → n ≤ 7 → (p q : ℕ → ℤ) → integral (blend m n p q) ≡ weightedSum m n p q
@@ -18,8 +18,8 @@ unfolding integral weightedSum
 integral-is m n hm hn p q =
     of-blend _ (dot-linear (λ i. pos (waterUnit / (i + 1)))) m n p q ∙
     ap₂ (λ x y. x +ℤ y)
-    (sum-cong m _ _ (λ j h. ap (λ x. p j *ℤ x) (left-bases m hm n hn j h .1 .1 .0)))
-    (sum-cong n _ _ (λ j h. ap (λ x. rightWeights q j *ℤ x) (right-bases m hm n hn j h .1 .1 .0)))
+    (sum-cong m _ _ (λ j h. ap (λ x. p j *ℤ x) (left-base m n hm hn j h .water)))
+    (sum-cong n _ _ (λ j h. ap (λ x. rightWeights q j *ℤ x) (right-base m n hm hn j h .water)))
 
 -- i+1 divides 720,720, i to 15
 pub divides-unit : (i : ℕ) → i ≤ 15 → (i + 1) * (waterUnit / (i + 1)) ≡ waterUnit

@@ -1,13 +1,14 @@
 -- The half-sum beside its unrounded self: m+n+1 scalings, each with an error from −e₁/D to e₂/D.
 use mathlib.Core.Path.{_≡_, refl, sym, _∙_, ap, ap₂}
 use Prim.Native.Nat.{ℕ, zero, suc, _+_, _*_, _-_, _^_, _≤_}
-use native.Mathlib.Nat.{pow-zero, pow-suc, pow-succ', zero-add, add-zero, sub-zero}
+use native.Mathlib.Nat.{pow-zero, pow-succ', zero-add, add-zero}
 use native.Mathlib.Omega.{arith}
 use lib.IntN.{ℤ, pos, one, _+ℤ_, _*ℤ_, +ℤ-comm, *ℤ-comm, *ℤ-one}
 use Rattle.integer.specs.Sum.{sum}
 use Rattle.integer.proofs.Laws.{one-*ℤ, *ℤ-assoc, *ℤ-left-comm}
 use Rattle.integer.proofs.Sum.{sum-cong, sum-*, sum-first}
 use Rattle.hermite.specs.HalfSum.{valueUnit, g, unroundedDescent, unrounded}
+use Rattle.hermite.proofs.At.{power-first, power-next}
 use Rattle.piece.specs.Scaling.{rounded, scaled, scaledTimes}
 use Rattle.piece.specs.HalfSum.{descended, halfSum}
 use Rattle.piece.proofs.Near.{Near, Rounding, near-exact, near-start, near-as, near-scaled, near-sum}
@@ -28,16 +29,12 @@ descent-next G a D k i =
     +ℤ-comm (pos (D ^ suc k) *ℤ (pos valueUnit *ℤ G i)) (pos a *ℤ unroundedDescent (from G (suc i)) a D k)
   where
     first : pos valueUnit *ℤ G (i + 0) *ℤ pos (a ^ 0 * D ^ (suc k - 0)) ≡ pos (D ^ suc k) *ℤ (pos valueUnit *ℤ G i)
-    first =
-        let e : a ^ 0 * D ^ (suc k - 0) ≡ D ^ suc k = rw (pow-zero, sub-zero) (omega arith) in
-        rw (add-zero, e) (*ℤ-comm (pos valueUnit *ℤ G i) (pos (D ^ suc k)))
+    first = rw (add-zero, power-first a D k) (*ℤ-comm (pos valueUnit *ℤ G i) (pos (D ^ suc k)))
 
     later : (l : ℕ) → pos valueUnit *ℤ G (i + suc l) *ℤ pos (a ^ suc l * D ^ (suc k - suc l)) ≡ pos a *ℤ (pos valueUnit *ℤ G (suc i + l) *ℤ pos (a ^ l * D ^ (k - l)))
     later l =
         let e : i + suc l ≡ suc i + l = omega arith in
-        let f : suc k - suc l ≡ k - l = omega arith in
-        let g : a ^ suc l * D ^ (suc k - suc l) ≡ a * (a ^ l * D ^ (k - l)) = rw (f, pow-suc) (omega arith) in
-        rw (e, g) (*ℤ-left-comm (pos valueUnit *ℤ G (suc i + l)) (pos a) (pos (a ^ l * D ^ (k - l))))
+        rw (e, power-next a D k l) (*ℤ-left-comm (pos valueUnit *ℤ G (suc i + l)) (pos a) (pos (a ^ l * D ^ (k - l))))
 
 module _ (D e₁ e₂ : ℕ) (once : (z : ℤ) → Rounding D e₁ e₂ z (rounded z D)) where
   pub near-times : {N c₁ c₂ : ℕ} {Z u : ℤ} (k a : ℕ) → a ≤ D → Near D N c₁ c₂ Z u → Near D (N + k) (c₁ + k * e₁) (c₂ + k * e₂) (pos (a ^ k) *ℤ Z) (scaledTimes k u a D)

@@ -141,7 +141,7 @@ module _ {D N e₁ e₂ : ℕ} {Z u : ℤ} (k : ℕ) (positive : 0 < D) (near : 
   pub error-below : e₂ < k * D → (Z -ℤ pos (D ^ N) *ℤ u) <ℤ pos (k * D ^ N)
   error-below b = rw (error-is near) (simp differences (omega (arith, below D k e₂ (D ^ N) (near .over) (one-le-pow N D positive) b (near .over-small))))
 
--- with nothing under, the error is at least what 0 is
+-- where every error is over, the error is at least 0, and so at least any x that is not above 0
 pub error-from-zero : {D N e₂ : ℕ} {Z u : ℤ} (x : ℤ) → 0 < D → Near D N 0 e₂ Z u → x ≤ℤ pos 0 → x ≤ℤ (Z -ℤ pos (D ^ N) *ℤ u)
 error-from-zero {D} {N} x h near =
     let none : near .under ≤ 0 * D ^ N = at-most D 0 0 (D ^ N) (near .under) h (omega arith) (near .under-small) in

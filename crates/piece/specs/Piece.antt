@@ -1,10 +1,11 @@
--- Document 01, "Blend over one piece": a piece, its grades and weights, and its exact blend.
+-- Document 01, "Blend over one piece": a piece, its grades and weights, and its exact blend, derivative and integral.
 use mathlib.Core.List.{List}
 use Prim.Native.Nat.{ℕ, _*_, _-_, _^_}
 use lib.IntN.{ℤ, pos, _*ℤ_}
 use lib.ListN.{length, getD}
-use Rattle.hermite.specs.Polynomial.{Polynomial}
+use Rattle.hermite.specs.Polynomial.{Polynomial, derivative}
 use Rattle.hermite.specs.Blend.{blend}
+use Rattle.hermite.specs.Water.{integral}
 
 -- a piece: its length h in steps, and the coefficients C_0, C_1, .. of the knots at its left and right end
 pub record Piece : Type 0 where
@@ -37,3 +38,11 @@ D P = 256 * P .h
 -- the exact blend of the piece
 unfoldable pub exactBlend : Piece → Polynomial
 exactBlend P = blend (m P) (n P) (p P) (q P)
+
+-- the exact derivative over the piece, with the coefficients (i+1) × a_(i+1)
+unfoldable pub exactDerivative : Piece → Polynomial
+exactDerivative P = derivative (exactBlend P)
+
+-- the exact integral, in the unit of Water: h × the sum of a_i × 720,720/(i+1)
+unfoldable pub exactIntegral : Piece → ℤ
+exactIntegral P = pos (P .h) *ℤ integral (exactBlend P)

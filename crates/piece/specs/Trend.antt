@@ -2,11 +2,11 @@
 use Prim.Native.Nat.{ℕ, _+_, _*_, _-_, _^_}
 use lib.IntN.{ℤ, pos, negℤ, _+ℤ_, _-ℤ_, _*ℤ_}
 use lib.Signed.{_≤ℤ_}
-use Rattle.hermite.specs.Polynomial.{at, derivative}
+use Rattle.hermite.specs.Polynomial.{at}
 use Rattle.hermite.specs.Blend.{rightWeights}
 use Rattle.hermite.specs.HalfSum.{valueUnit}
 use Rattle.hermite.specs.Slope.{K}
-use Rattle.piece.specs.Piece.{Piece, m, n, p, q, D, exactBlend}
+use Rattle.piece.specs.Piece.{Piece, m, n, p, q, D, exactDerivative}
 use Rattle.piece.specs.Scaling.{rounded, scaledTimes}
 use Rattle.piece.specs.HalfSum.{lowerHalfSum}
 use Rattle.piece.specs.Value.{N}
@@ -29,7 +29,7 @@ trend P r = rounded (Y1 P r -ℤ Y2 P r +ℤ Y3 P r) (P .h)
 
 -- (65,536 × the exact derivative over the piece at r/D − h × z) × D^(m+n+1)
 unfoldable pub trendError : Piece → ℕ → ℤ → ℤ
-trendError P r z = pos valueUnit *ℤ at r (D P) (N P) (derivative (exactBlend P)) -ℤ pos (D P ^ N P) *ℤ (pos (P .h) *ℤ z)
+trendError P r z = pos valueUnit *ℤ at r (D P) (N P) (exactDerivative P) -ℤ pos (D P ^ N P) *ℤ (pos (P .h) *ℤ z)
 
 -- 65,536 × the exact derivative over the piece − h × z is from −(m+n) to 2(m+n)+h−1, both ends included
 pub record TrendDistance (P : Piece) (r : ℕ) (z : ℤ) : Type 0 where
