@@ -8,6 +8,7 @@ use lib.Dec.{lit<, lit≤}
 use lib.IntN.{ℤ, pos, negsuc, negℤ, _+ℤ_, _*ℤ_}
 use mir.Syntax.{Width, w64}
 use mir.Val.{SFits, hbits}
+use Rattle.integer.specs.Sum.{sum}
 use Rattle.integer.specs.Within.{up, dn, Within}
 use Rattle.integer.proofs.Difference.{_⊖_, as-⊖, ⊖-≡, ⊖-+}
 
@@ -45,6 +46,24 @@ within-mul (negsuc a) (negsuc b) v w = within-product (suc a) (suc b) (v .lo) (w
 pub within-fits : {B : ℕ} (w : Width) (z : ℤ) → B < 2 ^ hbits w → Within B z → SFits w z
 within-fits w (pos n) h v = record { sfits = omega (arith, v .hi) }
 within-fits w (negsuc n) h v = record { sfits = omega (arith, v .lo) }
+
+-- and what fits in a width is bounded by it
+pub fits-within : (w : Width) (z : ℤ) → SFits w z → Within (2 ^ hbits w) z
+fits-within w (pos n) f = record { hi = omega (arith, f .sfits); lo = omega arith }
+fits-within w (negsuc n) f = record { hi = omega arith; lo = f .sfits }
+
+pub within-natural : (n : ℕ) → Within n (pos n)
+within-natural n = record { hi = omega arith; lo = omega arith }
+
+-- a sum of terms, each bounded by its share of B
+unfoldable pub shares : ℕ → (ℕ → ℕ) → ℕ
+shares zero b = b zero
+shares (suc m) b = shares m b + b (suc m)
+
+pub within-sum : (B m : ℕ) (b : ℕ → ℕ) (f : ℕ → ℤ) → ((j : ℕ) → j ≤ m → Within (b j * B) (f j)) → Within (shares m b * B) (sum m f)
+unfolding shares sum
+within-sum B zero b f h = h zero (omega arith)
+within-sum B (suc m) b f h = within-more (omega arith) (within-add (sum m f) (f (suc m)) (within-sum B m b f (λ j k. h j (omega arith))) (h (suc m) (omega arith)))
 
 -- their use: x y − z, where z is bounded more closely
 polynomial-fits : (x y z : ℤ) → Within (2 ^ 30) x → Within (2 ^ 30) y → Within 7 z → SFits w64 (x *ℤ y +ℤ negℤ z)

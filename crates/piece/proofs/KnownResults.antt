@@ -9,12 +9,12 @@ use Rattle.hermite.specs.Water.{c, weightedSum}
 use Rattle.piece.specs.Scaling.{rounded, scaled, scaledTimes}
 use Rattle.piece.specs.HalfSum.{descended, halfSum, lowerHalfSum}
 use Rattle.piece.specs.Value.{value}
-use Rattle.piece.specs.Trend.{Y1, Y2, Y3, trend}
+use Rattle.piece.specs.Trend.{Y1, Y2, Y3, scaledK, trend}
 use Rattle.piece.specs.Water.{total}
 use Rattle.piece.specs.KnownResults.{KnownResults}
 
 pub known-results : KnownResults
-unfolding value trend total Y1 Y2 Y3 lowerHalfSum halfSum descended scaledTimes scaled rounded g primed K sumK kappa weightedSum c rightWeights binomial sign sum
+unfolding value trend total Y1 Y2 Y3 scaledK lowerHalfSum halfSum descended scaledTimes scaled rounded g primed K sumK kappa weightedSum c rightWeights binomial sign sum
 known-results =
     record {
       value-half = refl;

@@ -1,9 +1,9 @@
-pub mod Near
-pub mod Scaling
-pub mod HalfSum
-pub mod Value
-pub mod Slope
-pub mod Trend
+mod Agree
+mod Bounds
+mod Lists
+mod Machine
+mod Tables
+pub mod Distance
 pub mod Taylor
-pub mod Water
+pub mod Integral
 pub mod KnownResults

@@ -1,16 +1,11 @@
 -- Document 01, "Scans with known results": the M entries that concern one piece, as one group. Lists are left, right.
 use mathlib.Core.Path.{_≡_}
-use mathlib.Core.List.{List, [], _∷_}
-use Prim.Native.Nat.{ℕ}
-use lib.IntN.{ℤ, pos, negsuc}
-use Rattle.piece.specs.Piece.{Piece}
+use mathlib.Core.List.{[], _∷_}
+use lib.IntN.{pos, negsuc}
+use Rattle.piece.specs.Piece.{piece}
 use Rattle.piece.specs.Value.{value}
 use Rattle.piece.specs.Trend.{trend}
 use Rattle.piece.specs.Water.{total}
-
--- the piece of length h with these coefficients
-abbrev piece : ℕ → List ℤ → List ℤ → Piece
-piece h left right = record { h = h; left = left; right = right }
 
 pub record KnownResults : Type 0 where
   -- (0,0), (1,0): value at 128/256 is 32,768; trend there 98,304

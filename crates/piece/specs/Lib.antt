@@ -1,5 +1,8 @@
 pub mod Piece
 pub mod Scaling
+pub mod Divisor
+pub mod Size
+pub mod Lists
 pub mod HalfSum
 pub mod Value
 pub mod Trend

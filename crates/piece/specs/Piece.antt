@@ -13,6 +13,10 @@ pub record Piece : Type 0 where
   pub left : List ℤ
   pub right : List ℤ
 
+-- the piece of these
+abbrev pub piece : ℕ → List ℤ → List ℤ → Piece
+piece h left right = record { h = h; left = left; right = right }
+
 -- the grades at the left and the right end: C_0 to C_m, C_0 to C_n
 abbrev pub m : Piece → ℕ
 m P = length (P .left) - 1

@@ -19,9 +19,13 @@ Y1 P r = lowerHalfSum (m P) (n P) r (D P) (p P)
 unfoldable pub Y2 : Piece → ℕ → ℤ
 Y2 P r = lowerHalfSum (n P) (m P) (D P - r) (D P) (rightWeights (q P))
 
--- Y3: 65,536 × K, scaled by r/D m times, then by (D−r)/D n times
+-- 65,536 × k, scaled by r/D m times, then by (D−r)/D n times
+unfoldable pub scaledK : ℕ → ℕ → ℕ → ℕ → ℤ → ℤ
+scaledK m n r D k = scaledTimes n (scaledTimes m (pos valueUnit *ℤ k) r D) (D - r) D
+
+-- Y3: that of K
 unfoldable pub Y3 : Piece → ℕ → ℤ
-Y3 P r = scaledTimes (n P) (scaledTimes (m P) (pos valueUnit *ℤ K (m P) (n P) (p P) (q P)) r (D P)) (D P - r) (D P)
+Y3 P r = scaledK (m P) (n P) r (D P) (K (m P) (n P) (p P) (q P))
 
 -- Trend = (Y1 − Y2 + Y3) divided by h, rounded down
 unfoldable pub trend : Piece → ℕ → ℤ

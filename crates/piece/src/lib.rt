@@ -1,1 +1,12 @@
-// One piece of the reel. No functions yet: definitions in specs/, laws in proofs/.
+// One piece in machine integers: its value, trend and total.
+mod curve;
+mod half_sum;
+mod scaling;
+mod slope;
+mod sums;
+mod water;
+mod weights;
+
+pub use curve::trend;
+pub use curve::value;
+pub use water::total;

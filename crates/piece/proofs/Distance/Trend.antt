@@ -10,15 +10,15 @@ use Rattle.hermite.proofs.HalfSum.{derivative-value}
 use Rattle.piece.specs.Piece.{Piece, m, n, p, q, D, exactBlend, exactDerivative}
 use Rattle.piece.specs.Scaling.{rounded}
 use Rattle.piece.specs.Value.{N}
-use Rattle.piece.specs.Trend.{Y1, Y2, Y3, trend, trendError, TrendDistance}
-use Rattle.piece.proofs.Near.{Near, Rounding, near-as, near-divided, error-at-least, error-at-most}
-use Rattle.piece.proofs.Scaling.{rounded-down}
-use Rattle.piece.proofs.Slope.{near-slope}
+use Rattle.piece.specs.Trend.{Y1, Y2, Y3, scaledK, trend, trendError, TrendDistance}
+use Rattle.piece.proofs.Distance.Near.{Near, Rounding, near-as, near-divided, error-at-least, error-at-most}
+use Rattle.piece.proofs.Distance.Scaling.{rounded-down}
+use Rattle.piece.proofs.Distance.Slope.{near-slope}
 
 -- for any error of one scaling and of the division by h: Y1, Y2 and Y3 make m+n scalings each
 near-trend : (P : Piece) (r e₁ e₂ f₁ f₂ : ℕ) → m P ≤ 7 → n P ≤ 7 → ((z : ℤ) → Rounding (D P) e₁ e₂ z (rounded z (D P))) → ((z : ℤ) → Rounding (P .h) f₁ f₂ z (rounded z (P .h))) → r ≤ D P →
     Near (D P) (N P) ((m P + n P) * (2 * e₁ + e₂) + D P * f₁) ((m P + n P) * (e₁ + 2 * e₂) + D P * f₂) (pos valueUnit *ℤ at r (D P) (N P) (exactDerivative P)) (pos (P .h) *ℤ trend P r)
-unfolding trend Y1 Y2 Y3 exactBlend exactDerivative
+unfolding trend Y1 Y2 Y3 scaledK exactBlend exactDerivative
 near-trend P r e₁ e₂ f₁ f₂ hm hn once divided b =
     near-as (omega arith) (omega arith) (omega arith) (sym (derivative-value r (D P) b (m P) (n P) hm hn (p P) (q P)))
     (near-divided (near-slope (D P) e₁ e₂ once (m P) (n P) r (p P) (q P) b) (divided (Y1 P r -ℤ Y2 P r +ℤ Y3 P r)))

@@ -8,8 +8,8 @@ use Rattle.hermite.specs.HalfSum.{valueUnit}
 use Rattle.hermite.specs.Slope.{primed, lowerUnrounded, K, unroundedSlope}
 use Rattle.piece.specs.Scaling.{rounded, scaledTimes}
 use Rattle.piece.specs.HalfSum.{lowerHalfSum}
-use Rattle.piece.proofs.Near.{Near, Rounding, near-exact, near-start, near-as, near-sum, near-neg}
-use Rattle.piece.proofs.HalfSum.{near-times, near-halfSum}
+use Rattle.piece.proofs.Distance.Near.{Near, Rounding, near-exact, near-start, near-as, near-sum, near-neg}
+use Rattle.piece.proofs.Distance.HalfSum.{near-times, near-halfSum}
 
 module _ (D e₁ e₂ : ℕ) (once : (z : ℤ) → Rounding D e₁ e₂ z (rounded z D)) where
   -- Y1 and Y2: m+n scalings, but none where the grade is −1

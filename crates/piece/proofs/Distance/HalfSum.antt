@@ -11,7 +11,7 @@ use Rattle.hermite.specs.HalfSum.{valueUnit, g, unroundedDescent, unrounded}
 use Rattle.hermite.proofs.At.{power-first, power-next}
 use Rattle.piece.specs.Scaling.{rounded, scaled, scaledTimes}
 use Rattle.piece.specs.HalfSum.{descended, halfSum}
-use Rattle.piece.proofs.Near.{Near, Rounding, near-exact, near-start, near-as, near-scaled, near-sum}
+use Rattle.piece.proofs.Distance.Near.{Near, Rounding, near-exact, near-start, near-as, near-scaled, near-sum}
 
 -- the sums of step 2 from i on
 from : (ℕ → ℤ) → ℕ → ℕ → ℤ

@@ -13,9 +13,9 @@ use Rattle.piece.specs.Piece.{Piece, m, n, p, q, D, exactBlend}
 use Rattle.piece.specs.Scaling.{rounded}
 use Rattle.piece.specs.HalfSum.{halfSum}
 use Rattle.piece.specs.Value.{N, value, valueError, ValueDistance}
-use Rattle.piece.proofs.Near.{Near, Rounding, near-as, near-sum, error-below, error-from-zero}
-use Rattle.piece.proofs.Scaling.{rounded-down}
-use Rattle.piece.proofs.HalfSum.{near-halfSum}
+use Rattle.piece.proofs.Distance.Near.{Near, Rounding, near-as, near-sum, error-below, error-from-zero}
+use Rattle.piece.proofs.Distance.Scaling.{rounded-down}
+use Rattle.piece.proofs.Distance.HalfSum.{near-halfSum}
 
 -- for any error of one rounding: the two half-sums make 2(m+n+1) scalings
 near-value : (P : Piece) (r e₁ e₂ : ℕ) → ((z : ℤ) → Rounding (D P) e₁ e₂ z (rounded z (D P))) → r ≤ D P →

@@ -6,7 +6,7 @@ use lib.IntN.{ℤ, pos, _+ℤ_, +ℤ-idr, *ℤ-comm}
 use Rattle.integer.specs.Floor.{Floor}
 use Rattle.integer.proofs.Floor.{floor}
 use Rattle.piece.specs.Scaling.{rounded}
-use Rattle.piece.proofs.Near.{Rounding}
+use Rattle.piece.proofs.Distance.Near.{Rounding}
 
 pub rounded-down : (d : ℕ) → 0 < d → (z : ℤ) → Rounding d 0 (d - 1) z (rounded z d)
 unfolding rounded

@@ -1,0 +1,6 @@
+pub mod Near
+pub mod Scaling
+pub mod HalfSum
+pub mod Value
+pub mod Slope
+pub mod Trend

@@ -1,0 +1,250 @@
+-- `piece::curve::trend` meets its contract: the arrays stand for the piece's weights, and Y1 − Y2 + Y3 fits.
+use borrow.Author.Needs.{needs}
+use mathlib.Core.Path.{_≡_, sym, _∙_, ap, ap₂}
+use Prim.Native.Nat.{ℕ, _+_, _-_, _*_, _^_, _≤_}
+use native.Mathlib.Omega.{arith}
+use lib.Dec.{lit<, lit≤}
+use lib.IntN.{ℤ, negℤ, one, _+ℤ_, _-ℤ_, *ℤ-one}
+use lib.ListN.{length}
+use mir.Syntax.{w64}
+use mir.Val.{SFits, toZ, ofZ}
+use mir.Facts.{toZ-ofZ}
+use Rattle.integer.specs.Within.{Within}
+use Rattle.integer.proofs.Within.{within-more, within-add, within-neg, within-fits}
+use Rattle.hermite.specs.Blend.{rightWeights}
+use Rattle.hermite.specs.HalfSum.{valueUnit}
+use Rattle.hermite.specs.Polynomial.{coefficient}
+use Rattle.hermite.specs.Slope.{sumK, K}
+use Rattle.piece.specs.HalfSum.{lowerHalfSum}
+use Rattle.piece.specs.Piece.{Piece, piece, m, n, p, q, D}
+use Rattle.piece.specs.Scaling.{rounded, scaled}
+use Rattle.piece.specs.Size.{sizeMax}
+use Rattle.piece.specs.Trend.{Y1, Y2, Y3, scaledK, trend}
+use Rattle.piece.proofs.Agree.{lowerHalfSum-agree, sumK-agree}
+use Rattle.piece.proofs.Bounds.{sized-within, right-sized, sized-weights, right-weights, lower-within, sumK-within, scaledK-within}
+use Rattle.piece.proofs.Machine.{result-is}
+use Rattle.piece.proofs.curve.trend.Statement.{statement}
+use Rattle.piece.proofs.curve.trend.Tie as tie
+use Rattle.piece.proofs.curve.trend.Reads as reads
+use Rattle.piece.proofs.curve.trend.Lts as lts
+use Rattle.piece.proofs.half_sum.lower_half_sum.Reads as lower-half-sum-reads
+use Rattle.piece.proofs.scaling.Divisor.of.Reads as of-reads
+use Rattle.piece.proofs.scaling.scaled.Reads as scaled-reads
+use Rattle.piece.proofs.slope.sum_k.Reads as sum-k-reads
+use Rattle.piece.proofs.slope.y3.Reads as y3-reads
+use Rattle.piece.proofs.weights.right_weights.Reads as right-weights-reads
+use Rattle.piece.proofs.weights.weights.Reads as weights-reads
+
+sub-m : tie.Need-sub-m
+sub-m c = search needs
+
+sub-n : tie.Need-sub-n
+sub-n c = search needs
+
+mul-of : tie.Need-mul-of
+mul-of c = search needs
+
+of-requires : tie.Need-of-requires
+of-requires c κs = search needs
+
+weights-requires : tie.Need-weights-requires
+weights-requires c κs = search needs
+
+right-weights-requires : tie.Need-right-weights-requires
+right-weights-requires c κs = search needs
+
+slice-aggregate-lower-half-sum : tie.Need-slice-aggregate-lower-half-sum
+slice-aggregate-lower-half-sum c = search needs
+
+lower-half-sum-requires : tie.Need-lower-half-sum-requires
+lower-half-sum-requires c κs =
+    let b = c .before .before .before .before in
+    let s = c .before .before .before .of in (
+      omega arith,
+      omega arith,
+      record { divides = s .ensures .1; proper = omega (arith, s .ensures .0) },
+      sized-weights (b .args .h) (b .args .left .now) (b .pre .0 .leftSize) (c .before .before .weights .ensures),
+    )
+
+sub-lower-half-sum : tie.Need-sub-lower-half-sum
+sub-lower-half-sum c = search needs
+
+slice-aggregate-lower-half-sum-2 : tie.Need-slice-aggregate-lower-half-sum-2
+slice-aggregate-lower-half-sum-2 c = search needs
+
+lower-half-sum-requires-2 : tie.Need-lower-half-sum-requires-2
+lower-half-sum-requires-2 c κs =
+    let b = c .before .before .before .before .before .before .before in
+    let s = c .before .before .before .before .before .before .of in (
+      omega arith,
+      omega arith,
+      record { divides = s .ensures .1; proper = omega arith },
+      right-weights (b .args .h) (b .args .right .now) (b .pre .0 .rightSize) (c .before .before .before .before .right-weights .ensures),
+    )
+
+slice-aggregate-sum-k : tie.Need-slice-aggregate-sum-k
+slice-aggregate-sum-k c = search needs
+
+sum-k-requires : tie.Need-sum-k-requires
+sum-k-requires c κs =
+    let b = c .before .before .before .before .before .before .before .before .before in
+    (omega arith, omega arith, right-weights (b .args .h) (b .args .right .now) (b .pre .0 .rightSize) (c .before .before .before .before .before .before .right-weights .ensures))
+
+slice-aggregate-sum-k-2 : tie.Need-slice-aggregate-sum-k-2
+slice-aggregate-sum-k-2 c = search needs
+
+sum-k-requires-2 : tie.Need-sum-k-requires-2
+sum-k-requires-2 c κs =
+    let b = c .before .before .before .before .before .before .before .before .before .before .before in
+    (omega arith, omega arith, sized-weights (b .args .h) (b .args .left .now) (b .pre .0 .leftSize) (c .before .before .before .before .before .before .before .before .before .weights .ensures))
+
+-- where the function starts, the piece, and its divisor D
+abbrev start : tie.After-sum-k2 → tie.Start
+start c = c .before .before .before .before .before .before .before .before .before .before .before .before
+
+abbrev P : tie.After-sum-k2 → Piece
+P c = piece (start c .args .h) (start c .args .left .now) (start c .args .right .now)
+
+D-is : (c : tie.After-sum-k2) → c .before .before .before .before .before .before .before .before .before .before .before .of .result .d ≡ D (P c)
+D-is c = c .before .before .before .before .before .before .before .before .before .before .before .of .ensures .0
+
+-- Y1, Y2 and K
+module _ (c : tie.After-sum-k2) where
+  y1-is : c .before .before .before .before .before .before .before .lower-half-sum .result ≡ Y1 (P c) (start c .args .r)
+  unfolding Y1
+  y1-is =
+      c .before .before .before .before .before .before .before .lower-half-sum .ensures ∙
+      ap (λ d. lowerHalfSum (m (P c)) (n (P c)) (start c .args .r) d (coefficient (c .before .before .before .before .before .before .before .before .before .before .weights .result))) (D-is c) ∙
+      lowerHalfSum-agree (m (P c)) (n (P c)) (start c .args .r) (D (P c)) (λ j h. c .before .before .before .before .before .before .before .before .before .before .weights .ensures .entry j (omega arith))
+
+  y2-is : c .before .before .before .before .lower-half-sum2 .result ≡ Y2 (P c) (start c .args .r)
+  unfolding Y2
+  y2-is =
+      c .before .before .before .before .lower-half-sum2 .ensures ∙
+      ap (λ d. lowerHalfSum (n (P c)) (m (P c)) (d - start c .args .r) d (coefficient (c .before .before .before .before .before .before .before .before .before .right-weights .result))) (D-is c) ∙
+      lowerHalfSum-agree (n (P c)) (m (P c)) (D (P c) - start c .args .r) (D (P c)) (λ j h. c .before .before .before .before .before .before .before .before .before .right-weights .ensures .entry j (omega arith))
+
+  k-is : c .before .before .sum-k .result -ℤ c .sum-k2 .result ≡ K (m (P c)) (n (P c)) (p (P c)) (q (P c))
+  unfolding K
+  k-is =
+      ap₂ (λ x y. x -ℤ y)
+      (c .before .before .sum-k .ensures ∙ sumK-agree (n (P c)) (m (P c)) (λ j h. c .before .before .before .before .before .before .before .before .before .right-weights .ensures .entry j (omega arith)))
+      (c .sum-k2 .ensures ∙ sumK-agree (m (P c)) (n (P c)) (λ j h. c .before .before .before .before .before .before .before .before .before .before .weights .ensures .entry j (omega arith)))
+
+  -- how large they are
+  y1-within : Within (7 * (valueUnit * (3003 * (7 * sizeMax)))) (Y1 (P c) (start c .args .r))
+  unfolding Y1
+  y1-within = lower-within (m (P c)) (n (P c)) (start c .args .r) (D (P c)) (p (P c)) (omega arith) (omega arith) (omega arith) (omega arith) (λ j h. sized-within (P c .h) (P c .left) j (start c .pre .0 .leftSize))
+
+  y2-within : Within (7 * (valueUnit * (3003 * (7 * sizeMax)))) (Y2 (P c) (start c .args .r))
+  unfolding Y2
+  y2-within = lower-within (n (P c)) (m (P c)) (D (P c) - start c .args .r) (D (P c)) (rightWeights (q (P c))) (omega arith) (omega arith) (omega arith) (omega arith) (λ j h. right-sized (P c .h) (P c .right) j (start c .pre .0 .rightSize))
+
+  k-within : Within (2 * (91520 * sizeMax)) (K (m (P c)) (n (P c)) (p (P c)) (q (P c)))
+  unfolding K
+  k-within =
+      within-add _ (negℤ (sumK (m (P c)) (n (P c)) (p (P c))))
+      (sumK-within (n (P c)) (m (P c)) (rightWeights (q (P c))) (omega arith) (omega arith) (λ j h. right-sized (P c .h) (P c .right) j (start c .pre .0 .rightSize)))
+      (within-neg _ (sumK-within (m (P c)) (n (P c)) (p (P c)) (omega arith) (omega arith) (λ j h. sized-within (P c .h) (P c .left) j (start c .pre .0 .leftSize))))
+
+  difference-within : Within (2 * (7 * (valueUnit * (3003 * (7 * sizeMax))))) (Y1 (P c) (start c .args .r) -ℤ Y2 (P c) (start c .args .r))
+  difference-within = within-add (Y1 (P c) (start c .args .r)) (negℤ (Y2 (P c) (start c .args .r))) y1-within (within-neg (Y2 (P c) (start c .args .r)) y2-within)
+
+  -- as the machine has them
+  machine-k : toZ w64 (ofZ w64 (c .before .before .sum-k .result)) -ℤ toZ w64 (ofZ w64 (c .sum-k2 .result)) ≡ K (m (P c)) (n (P c)) (p (P c)) (q (P c))
+  machine-k = ap₂ (λ x y. x -ℤ y) (result-is (c .before .before .sum-k .result) (c .before .before .sum-k .ok)) (result-is (c .sum-k2 .result) (c .sum-k2 .ok)) ∙ k-is
+
+  k-fits : SFits w64 (K (m (P c)) (n (P c)) (p (P c)) (q (P c)))
+  k-fits = within-fits w64 _ (lit< tt) k-within
+
+  machine-difference : toZ w64 (ofZ w64 (c .before .before .before .before .before .before .before .lower-half-sum .result)) -ℤ toZ w64 (ofZ w64 (c .before .before .before .before .lower-half-sum2 .result)) ≡
+      Y1 (P c) (start c .args .r) -ℤ Y2 (P c) (start c .args .r)
+  machine-difference =
+      ap₂ (λ x y. x -ℤ y) (result-is (c .before .before .before .before .before .before .before .lower-half-sum .result) (c .before .before .before .before .before .before .before .lower-half-sum .ok) ∙ y1-is)
+      (result-is (c .before .before .before .before .lower-half-sum2 .result) (c .before .before .before .before .lower-half-sum2 .ok) ∙ y2-is)
+
+  difference-fits : SFits w64 (Y1 (P c) (start c .args .r) -ℤ Y2 (P c) (start c .args .r))
+  difference-fits = within-fits w64 _ (lit< tt) difference-within
+
+sub-k : tie.Need-sub-k
+sub-k c = rw (machine-k c) (k-fits c)
+
+sub-scaled : tie.Need-sub-scaled
+sub-scaled c = rw (machine-difference c) (difference-fits c)
+
+y3-requires : tie.Need-y3-requires
+y3-requires c κs =
+    let s = c .before .before .before .before .before .before .before .before .before .before .before .of in
+    (record { divides = s .ensures .1; proper = omega (arith, s .ensures .0) }, rw (machine-k c, toZ-ofZ (k-fits c)) (k-within c))
+
+-- Y3, and Y1 − Y2 + Y3
+module _ (c : tie.After-y3) where
+  y3-is : c .y3 .result ≡ Y3 (P (c .before)) (start (c .before) .args .r)
+  unfolding Y3
+  y3-is =
+      c .y3 .ensures ∙
+      ap₂ (λ d k. scaledK (m (P (c .before))) (n (P (c .before))) (start (c .before) .args .r) d k) (D-is (c .before))
+      (ap (λ z. toZ w64 (ofZ w64 z)) (machine-k (c .before)) ∙ toZ-ofZ (k-fits (c .before)))
+
+  y3-within : Within (valueUnit * (2 * (91520 * sizeMax))) (Y3 (P (c .before)) (start (c .before) .args .r))
+  unfolding Y3
+  y3-within = scaledK-within (m (P (c .before))) (n (P (c .before))) (start (c .before) .args .r) (D (P (c .before))) _ (omega arith) (omega arith) (k-within (c .before))
+
+  sum-within : Within (2 ^ 63 - 1) (Y1 (P (c .before)) (start (c .before) .args .r) -ℤ Y2 (P (c .before)) (start (c .before) .args .r) +ℤ Y3 (P (c .before)) (start (c .before) .args .r))
+  sum-within = within-more (lit≤ tt) (within-add _ (Y3 (P (c .before)) (start (c .before) .args .r)) (difference-within (c .before)) y3-within)
+
+  sum-fits : SFits w64 (Y1 (P (c .before)) (start (c .before) .args .r) -ℤ Y2 (P (c .before)) (start (c .before) .args .r) +ℤ Y3 (P (c .before)) (start (c .before) .args .r))
+  sum-fits = within-fits w64 _ (lit< tt) sum-within
+
+  machine-sum : toZ w64 (ofZ w64 (toZ w64 (ofZ w64 (c .before .before .before .before .before .before .before .before .lower-half-sum .result)) -ℤ toZ w64 (ofZ w64 (c .before .before .before .before .before .lower-half-sum2 .result)))) +ℤ toZ w64 (ofZ w64 (c .y3 .result)) ≡
+      Y1 (P (c .before)) (start (c .before) .args .r) -ℤ Y2 (P (c .before)) (start (c .before) .args .r) +ℤ Y3 (P (c .before)) (start (c .before) .args .r)
+  machine-sum = ap₂ (λ x y. x +ℤ y) (ap (λ z. toZ w64 (ofZ w64 z)) (machine-difference (c .before)) ∙ toZ-ofZ (difference-fits (c .before))) (result-is (c .y3 .result) (c .y3 .ok) ∙ y3-is)
+
+add-scaled : tie.Need-add-scaled
+add-scaled c = rw (machine-sum c) (sum-fits c)
+
+of-requires-2 : tie.Need-of-requires-2
+of-requires-2 c κs = search needs
+
+scaled-requires : tie.Need-scaled-requires
+scaled-requires c κs =
+    (record { divides = c .of2 .ensures .1; proper = c .of2 .ensures .1 .atLeast }, rw (machine-sum (c .before), toZ-ofZ (sum-fits (c .before))) (sum-within (c .before)))
+
+-- the division by h is the scaling by 1/h
+divided : (y : ℤ) (d : ℕ) → scaled y 1 d ≡ rounded y d
+unfolding scaled one
+divided y d = ap (λ z. rounded z d) (*ℤ-one y)
+
+returns : tie.Need-returns
+unfolding trend
+returns c =
+    let y = c .before .before in
+    result-is (c .scaled .result) (c .scaled .ok) ∙ c .scaled .ensures ∙
+    ap₂ (λ z d. scaled z 1 d) (ap (λ z. toZ w64 (ofZ w64 z)) (machine-sum y) ∙ toZ-ofZ (sum-fits y)) (c .before .of2 .ensures .0) ∙ divided _ _
+
+pub trend-spec : {M : Type 1} → statement M
+trend-spec =
+    tie.close
+    (tie.spec
+    sub-m
+    sub-n
+    mul-of
+    of-requires
+    weights-requires
+    right-weights-requires
+    slice-aggregate-lower-half-sum
+    lower-half-sum-requires
+    sub-lower-half-sum
+    slice-aggregate-lower-half-sum-2
+    lower-half-sum-requires-2
+    slice-aggregate-sum-k
+    sum-k-requires
+    slice-aggregate-sum-k-2
+    sum-k-requires-2
+    sub-k
+    sub-scaled
+    y3-requires
+    add-scaled
+    of-requires-2
+    scaled-requires
+    returns)

@@ -1,0 +1,150 @@
+-- `piece::curve::value` meets its contract: the arrays stand for the piece's weights, and the two half-sums fit.
+use borrow.Author.Needs.{needs}
+use mathlib.Core.Path.{_≡_, sym, _∙_, ap, ap₂}
+use Prim.Native.Nat.{ℕ, _+_, _-_, _*_, _^_, _≤_}
+use native.Mathlib.Omega.{arith}
+use lib.Dec.{lit<, lit≤}
+use lib.IntN.{ℤ, _+ℤ_}
+use lib.ListN.{length}
+use mir.Syntax.{w64}
+use mir.Val.{SFits}
+use mir.Facts.{toZ-ofZ}
+use Rattle.integer.specs.Within.{Within}
+use Rattle.integer.proofs.Within.{within-add, within-fits}
+use Rattle.hermite.specs.Blend.{rightWeights}
+use Rattle.hermite.specs.Polynomial.{coefficient}
+use Rattle.piece.specs.HalfSum.{halfSum}
+use Rattle.piece.specs.Piece.{Piece, piece, m, n, p, q, D}
+use Rattle.piece.specs.Value.{value}
+use Rattle.piece.proofs.Agree.{halfSum-agree}
+use Rattle.piece.proofs.Bounds.{sized-within, right-sized, sized-weights, right-weights, more-weights, half-within}
+use Rattle.piece.proofs.Machine.{result-is}
+use Rattle.piece.proofs.curve.value.Statement.{statement}
+use Rattle.piece.proofs.curve.value.Tie as tie
+use Rattle.piece.proofs.curve.value.Reads as reads
+use Rattle.piece.proofs.curve.value.Lts as lts
+use Rattle.piece.proofs.half_sum.half_sum.Reads as half-sum-reads
+use Rattle.piece.proofs.scaling.Divisor.of.Reads as of-reads
+use Rattle.piece.proofs.weights.right_weights.Reads as right-weights-reads
+use Rattle.piece.proofs.weights.weights.Reads as weights-reads
+
+-- src/curve.rt:17:13
+sub-m : tie.Need-sub-m
+sub-m c = search needs
+
+-- src/curve.rt:18:13
+sub-n : tie.Need-sub-n
+sub-n c = search needs
+
+-- src/curve.rt:19:25
+mul-of : tie.Need-mul-of
+mul-of c = search needs
+
+-- src/curve.rt:19:9
+of-requires : tie.Need-of-requires
+of-requires c κs = search needs
+
+-- src/curve.rt:20:13
+weights-requires : tie.Need-weights-requires
+weights-requires c κs = search needs
+
+-- src/curve.rt:21:13
+right-weights-requires : tie.Need-right-weights-requires
+right-weights-requires c κs = search needs
+
+-- src/curve.rt:22:26
+slice-aggregate-half-sum : tie.Need-slice-aggregate-half-sum
+slice-aggregate-half-sum c = search needs
+
+-- src/curve.rt:22:5
+half-sum-requires : tie.Need-half-sum-requires
+half-sum-requires c κs =
+    let b = c .before .before .before .before in
+    let s = c .before .before .before .of in (
+      omega arith,
+      omega arith,
+      record { divides = s .ensures .1; proper = omega (arith, s .ensures .0) },
+      more-weights (lit≤ tt) (sized-weights (b .args .h) (b .args .left .now) (b .pre .0 .leftSize) (c .before .before .weights .ensures)),
+    )
+
+-- src/curve.rt:22:47
+sub-half-sum : tie.Need-sub-half-sum
+sub-half-sum c = search needs
+
+-- src/curve.rt:22:59
+slice-aggregate-half-sum-2 : tie.Need-slice-aggregate-half-sum-2
+slice-aggregate-half-sum-2 c = search needs
+
+-- src/curve.rt:22:32
+half-sum-requires-2 : tie.Need-half-sum-requires-2
+half-sum-requires-2 c κs =
+    let b = c .before .before .before .before .before .before .before in
+    let s = c .before .before .before .before .before .before .of in (
+      omega arith,
+      omega arith,
+      record { divides = s .ensures .1; proper = omega arith },
+      more-weights (lit≤ tt) (right-weights (b .args .h) (b .args .right .now) (b .pre .0 .rightSize) (c .before .before .before .before .right-weights .ensures)),
+    )
+
+-- where the function starts, the piece, and its divisor D
+abbrev start : tie.After-half-sum2 → tie.Start
+start c = c .before .before .before .before .before .before .before .before
+
+abbrev P : tie.After-half-sum2 → Piece
+P c = piece (start c .args .h) (start c .args .left .now) (start c .args .right .now)
+
+D-is : (c : tie.After-half-sum2) → c .before .before .before .before .before .before .before .of .result .d ≡ D (P c)
+D-is c = c .before .before .before .before .before .before .before .of .ensures .0
+
+-- the two half-sums
+module _ (c : tie.After-half-sum2) where
+  left-is : c .before .before .before .half-sum .result ≡ halfSum (m (P c)) (n (P c)) (start c .args .r) (D (P c)) (p (P c))
+  left-is =
+      c .before .before .before .half-sum .ensures ∙
+      ap (λ d. halfSum (m (P c)) (n (P c)) (start c .args .r) d (coefficient (c .before .before .before .before .before .before .weights .result))) (D-is c) ∙
+      halfSum-agree (m (P c)) (n (P c)) (start c .args .r) (D (P c)) (λ j h. c .before .before .before .before .before .before .weights .ensures .entry j (omega arith))
+
+  right-is : c .half-sum2 .result ≡ halfSum (n (P c)) (m (P c)) (D (P c) - start c .args .r) (D (P c)) (rightWeights (q (P c)))
+  right-is =
+      c .half-sum2 .ensures ∙
+      ap (λ d. halfSum (n (P c)) (m (P c)) (d - start c .args .r) d (coefficient (c .before .before .before .before .before .right-weights .result))) (D-is c) ∙
+      halfSum-agree (n (P c)) (m (P c)) (D (P c) - start c .args .r) (D (P c)) (λ j h. c .before .before .before .before .before .right-weights .ensures .entry j (omega arith))
+
+  left-within : Within (2 ^ 61) (c .before .before .before .half-sum .result)
+  left-within = rw left-is (half-within (m (P c)) (n (P c)) (start c .args .r) (D (P c)) (p (P c)) (omega arith) (omega arith) (omega arith) (omega arith) (λ j h. sized-within (P c .h) (P c .left) j (start c .pre .0 .leftSize)))
+
+  right-within : Within (2 ^ 61) (c .half-sum2 .result)
+  right-within = rw right-is (half-within (n (P c)) (m (P c)) (D (P c) - start c .args .r) (D (P c)) (rightWeights (q (P c))) (omega arith) (omega arith) (omega arith) (omega arith) (λ j h. right-sized (P c .h) (P c .right) j (start c .pre .0 .rightSize)))
+
+  sum-is : c .before .before .before .half-sum .result +ℤ c .half-sum2 .result ≡ value (P c) (start c .args .r)
+  unfolding value
+  sum-is = ap₂ (λ x y. x +ℤ y) left-is right-is
+
+  sum-fits : SFits w64 (c .before .before .before .half-sum .result +ℤ c .half-sum2 .result)
+  sum-fits = within-fits w64 _ (lit< tt) (within-add _ _ left-within right-within)
+
+add-result : tie.Need-add-result
+add-result c =
+    rw (result-is (c .before .before .before .half-sum .result) (c .before .before .before .half-sum .ok), result-is (c .half-sum2 .result) (c .half-sum2 .ok)) (sum-fits c)
+
+returns : tie.Need-returns
+returns c =
+    rw (result-is (c .before .before .before .half-sum .result) (c .before .before .before .half-sum .ok), result-is (c .half-sum2 .result) (c .half-sum2 .ok), toZ-ofZ (sum-fits c)) (sum-is c)
+
+pub value-spec : {M : Type 1} → statement M
+value-spec =
+    tie.close
+    (tie.spec
+    sub-m
+    sub-n
+    mul-of
+    of-requires
+    weights-requires
+    right-weights-requires
+    slice-aggregate-half-sum
+    half-sum-requires
+    sub-half-sum
+    slice-aggregate-half-sum-2
+    half-sum-requires-2
+    add-result
+    returns)

@@ -1,0 +1,3 @@
+-- What the proofs of `scaling` use.
+mod Parts
+mod Sides

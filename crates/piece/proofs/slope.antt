@@ -1,0 +1,2 @@
+-- What the proofs of `slope` use.
+mod Sums

@@ -1,0 +1,115 @@
+-- `piece::slope::sum_k` meets its contract: the table's row n+1 gives g_m against n+1.
+use borrow.Author.Needs.{needs}
+use mathlib.Core.Path.{_≡_, refl, sym, _∙_, ap, ap₂}
+use Prim.Native.Nat.{ℕ, _+_, _-_, _*_, _^_, _≤_}
+use native.Mathlib.Omega.{arith}
+use lib.Dec.{lit<, lit≤}
+use lib.IntN.{ℤ, pos, _*ℤ_}
+use lib.ListN.{length-take, length-drop}
+use mir.Syntax.{w64}
+use mir.Val.{SFits, toZ, ofZ}
+use mir.Facts.{toZ-ofZ, toZ-pos}
+use Rattle.integer.proofs.Within.{within-fits}
+use Rattle.hermite.specs.Binomial.{binomial}
+use Rattle.hermite.specs.HalfSum.{g}
+use Rattle.hermite.specs.Polynomial.{coefficient}
+use Rattle.hermite.specs.Slope.{sumK}
+use Rattle.piece.proofs.Bounds.{more-weights, sumK-within}
+use Rattle.piece.proofs.slope.Sums.{sumK-by-g}
+use Rattle.piece.proofs.sums.Rows.{g-by-rows}
+use Rattle.piece.proofs.Tables.{part-entries}
+use Rattle.piece.proofs.Machine.{result-is}
+use Rattle.piece.proofs.slope.sum_k.Statement.{statement}
+use Rattle.piece.proofs.slope.sum_k.Tie as tie
+use Rattle.piece.proofs.slope.sum_k.Reads as reads
+use Rattle.piece.proofs.slope.sum_k.Lts as lts
+use Rattle.piece.proofs.sums.weighted.Reads as weighted-reads
+
+-- src/slope.rt:22:9
+slice-aggregate-table : tie.Need-slice-aggregate-table
+slice-aggregate-table c = search needs
+
+-- src/slope.rt:23:16
+add-next : tie.Need-add-next
+add-next c = search needs
+
+-- src/slope.rt:24:16
+mul-from : tie.Need-mul-from
+mul-from c = search needs
+
+-- src/slope.rt:24:16
+add-from : tie.Need-add-from
+add-from c = search needs
+
+-- src/slope.rt:24:16
+sub-from : tie.Need-sub-from
+sub-from c = search needs
+
+-- src/slope.rt:25:5
+cast-result : tie.Need-cast-result
+cast-result c = search needs
+
+-- src/slope.rt:25:31
+mul-weighted : tie.Need-mul-weighted
+mul-weighted c = search needs
+
+-- src/slope.rt:25:31
+sub-weighted : tie.Need-sub-weighted
+sub-weighted c = search needs
+
+-- src/slope.rt:25:31
+part-weighted-start : tie.Need-part-weighted-start
+part-weighted-start c = search needs
+
+-- src/slope.rt:25:31
+part-weighted-end : tie.Need-part-weighted-end
+part-weighted-end c = search needs
+
+-- src/slope.rt:25:19
+weighted-requires : tie.Need-weighted-requires
+weighted-requires c κs =
+    let b = c .before .before in
+    let from = 8 * (b .args .n + 1) + 7 - b .args .m in
+    (omega arith, simp (length-take, length-drop) (omega arith), part-entries _ (72 - from) from tt, more-weights (lit≤ tt) (b .pre .2))
+
+-- src/slope.rt:25:5
+product-is : (c : tie.After-weighted) → let b = c .before .before .before in
+    toZ w64 (b .args .n + 1) *ℤ toZ w64 (ofZ w64 (c .weighted .result)) ≡ sumK (b .args .m) (b .args .n) (coefficient (b .args .w .now))
+unfolding binomial
+product-is c =
+    let b = c .before .before .before in
+    let from = 8 * (b .args .n + 1) + 7 - b .args .m in
+    ap₂ (λ x y. x *ℤ y) (toZ-pos w64 {n = b .args .n + 1} (omega arith))
+    (result-is (c .weighted .result) (c .weighted .ok) ∙ c .weighted .ensures ∙
+    g-by-rows _ tt (b .args .n + 1) (b .args .m) (72 - from) from (omega arith) (omega arith) (omega arith) refl (b .args .w .now)) ∙
+    sym (sumK-by-g (b .args .m) (b .args .n) (coefficient (b .args .w .now)) (b .pre .0) (b .pre .1))
+
+product-fits : (c : tie.After-weighted) → let b = c .before .before .before in SFits w64 (sumK (b .args .m) (b .args .n) (coefficient (b .args .w .now)))
+product-fits c =
+    let b = c .before .before .before in
+    within-fits w64 _ (lit< tt) (sumK-within (b .args .m) (b .args .n) (coefficient (b .args .w .now)) (b .pre .0) (b .pre .1) (λ j h. b .pre .2 .small j (omega arith)))
+
+mul-result : tie.Need-mul-result
+mul-result c = rw (product-is c) (product-fits c)
+
+-- src/slope.rt:18:1
+returns : tie.Need-returns
+returns c = rw (product-is c) (toZ-ofZ (product-fits c))
+
+pub sum-k-spec : {M : Type 1} → statement M
+sum-k-spec =
+    tie.close
+    (tie.spec
+    slice-aggregate-table
+    add-next
+    mul-from
+    add-from
+    sub-from
+    cast-result
+    mul-weighted
+    sub-weighted
+    part-weighted-start
+    part-weighted-end
+    weighted-requires
+    mul-result
+    returns)

@@ -1,0 +1,80 @@
+-- `piece::slope::y3` meets its contract.
+use borrow.Author.Needs.{needs}
+use mathlib.Core.Path.{_≡_, sym, _∙_, ap}
+use Prim.Native.Nat.{ℕ, _+_, _-_, _*_, _^_, _≤_}
+use native.Mathlib.Omega.{arith}
+use lib.Dec.{lit<, lit≤}
+use lib.IntN.{ℤ, pos, _*ℤ_}
+use mir.Syntax.{w64}
+use mir.Val.{SFits, toZ, ofZ}
+use mir.Facts.{toZ-ofZ}
+use Rattle.integer.specs.Within.{Within}
+use Rattle.integer.proofs.Within.{within-natural, within-more, within-mul, within-fits}
+use Rattle.hermite.specs.HalfSum.{valueUnit}
+use Rattle.piece.specs.Scaling.{scaledTimes}
+use Rattle.piece.specs.Size.{sizeMax}
+use Rattle.piece.specs.Trend.{scaledK}
+use Rattle.piece.proofs.Bounds.{times-within}
+use Rattle.piece.proofs.Machine.{result-is}
+use Rattle.piece.proofs.slope.y3.Statement.{statement}
+use Rattle.piece.proofs.slope.y3.Tie as tie
+use Rattle.piece.proofs.slope.y3.Reads as reads
+use Rattle.piece.proofs.slope.y3.Lts as lts
+use Rattle.piece.proofs.scaling.scaled_times.Reads as scaled-times-reads
+
+-- 65,536 × k
+module _ (b : tie.Start) where
+  unit-is : pos valueUnit *ℤ toZ w64 (ofZ w64 (b .args .k)) ≡ pos valueUnit *ℤ b .args .k
+  unit-is = ap (λ z. pos valueUnit *ℤ z) (toZ-ofZ (b .fits .k))
+
+  unit-within : Within (2 ^ 63 - 1) (pos valueUnit *ℤ b .args .k)
+  unit-within = within-more (lit≤ tt) (within-mul (pos valueUnit) (b .args .k) (within-natural valueUnit) (b .pre .1))
+
+  unit-fits : SFits w64 (pos valueUnit *ℤ b .args .k)
+  unit-fits = within-fits w64 _ (lit< tt) unit-within
+
+-- scaled by r/d, m times
+first-is : (c : tie.After-scaled-times) → let b = c .before in
+    toZ w64 (ofZ w64 (c .scaled-times .result)) ≡ scaledTimes (b .args .m) (pos valueUnit *ℤ b .args .k) (b .args .r) (b .args .s .d)
+first-is c =
+    let b = c .before in
+    result-is (c .scaled-times .result) (c .scaled-times .ok) ∙ c .scaled-times .ensures ∙
+    ap (λ z. scaledTimes (b .args .m) z (b .args .r) (b .args .s .d)) (ap (λ z. toZ w64 (ofZ w64 z)) (unit-is b) ∙ toZ-ofZ (unit-fits b))
+
+-- src/slope.rt:33:37
+mul-scaled-times : tie.Need-mul-scaled-times
+mul-scaled-times c = rw (unit-is c) (unit-fits c)
+
+-- src/slope.rt:33:21
+scaled-times-requires : tie.Need-scaled-times-requires
+scaled-times-requires c κs = (c .pre .0, rw (unit-is c, toZ-ofZ (unit-fits c)) (unit-within c))
+
+-- src/slope.rt:33:56
+sub-scaled-times : tie.Need-sub-scaled-times
+sub-scaled-times c = search needs
+
+-- src/slope.rt:33:5
+scaled-times-requires-2 : tie.Need-scaled-times-requires-2
+scaled-times-requires-2 c κs =
+    let b = c .before .before in (
+      record { divides = b .pre .0 .divides; proper = omega arith },
+      rw (first-is (c .before)) (times-within (b .args .m) _ (b .args .r) (b .args .s .d) (b .pre .0 .divides .atLeast) (b .pre .0 .proper) (unit-within b)),
+    )
+
+-- src/slope.rt:29:1
+returns : tie.Need-returns
+unfolding scaledK
+returns c =
+    let b = c .before .before .before in
+    result-is (c .scaled-times2 .result) (c .scaled-times2 .ok) ∙ c .scaled-times2 .ensures ∙
+    ap (λ z. scaledTimes (b .args .n) z (b .args .s .d - b .args .r) (b .args .s .d)) (first-is (c .before .before))
+
+pub y3-spec : {M : Type 1} → statement M
+y3-spec =
+    tie.close
+    (tie.spec
+    mul-scaled-times
+    scaled-times-requires
+    sub-scaled-times
+    scaled-times-requires-2
+    returns)

@@ -1,0 +1,2 @@
+-- What the proofs of `sums` use.
+pub mod Rows

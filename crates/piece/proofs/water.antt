@@ -1,0 +1,2 @@
+-- What the proof of `total` uses.
+mod Recurrence

@@ -1,0 +1,203 @@
+-- `piece::water::total` meets its contract: the table gives each end's sum, and h times their sum fits.
+use borrow.Author.Needs.{needs}
+use mathlib.Core.Path.{_≡_, sym, _∙_, ap, ap₂}
+use Prim.Native.Nat.{ℕ, _+_, _-_, _*_, _^_, _≤_}
+use native.Mathlib.Omega.{arith}
+use lib.Dec.{lit<, lit≤}
+use lib.IntN.{ℤ, pos, _+ℤ_, _*ℤ_}
+use lib.ListN.{length, length-take, length-drop}
+use mir.Syntax.{w64}
+use mir.Val.{SFits, toZ, ofZ}
+use mir.Facts.{toZ-ofZ, toZ-pos}
+use Rattle.integer.specs.Sum.{sum}
+use Rattle.integer.specs.Within.{Within}
+use Rattle.integer.proofs.Within.{within-natural, within-more, within-add, within-mul, within-fits}
+use Rattle.hermite.specs.Blend.{rightWeights}
+use Rattle.hermite.specs.Water.{waterUnit, weightedSum}
+use Rattle.hermite.specs.Water.{c as Water·c}
+use Rattle.piece.specs.Piece.{Piece, piece, m, n, p, q}
+use Rattle.piece.specs.Size.{sizeMax}
+use Rattle.piece.specs.Water.{total}
+use Rattle.piece.proofs.Bounds.{sized-within, right-sized, sized-weights, right-weights, more-weights, side-within}
+use Rattle.piece.proofs.Machine.{result-is}
+use Rattle.piece.proofs.Tables.{part-entries}
+use Rattle.piece.proofs.water.Recurrence.{sum-by-table}
+use Rattle.piece.proofs.water.total.Statement.{statement}
+use Rattle.piece.proofs.water.total.Tie as tie
+use Rattle.piece.proofs.water.total.Reads as reads
+use Rattle.piece.proofs.water.total.Lts as lts
+use Rattle.piece.proofs.sums.weighted.Reads as weighted-reads
+use Rattle.piece.proofs.weights.right_weights.Reads as right-weights-reads
+use Rattle.piece.proofs.weights.weights.Reads as weights-reads
+
+sub-m : tie.Need-sub-m
+sub-m c = search needs
+
+sub-n : tie.Need-sub-n
+sub-n c = search needs
+
+weights-requires : tie.Need-weights-requires
+weights-requires c κs = search needs
+
+right-weights-requires : tie.Need-right-weights-requires
+right-weights-requires c κs = search needs
+
+slice-aggregate-table : tie.Need-slice-aggregate-table
+slice-aggregate-table c = search needs
+
+mul-row : tie.Need-mul-row
+mul-row c = search needs
+
+mul-row-2 : tie.Need-mul-row-2
+mul-row-2 c = search needs
+
+add-row : tie.Need-add-row
+add-row c = search needs
+
+mul-exchanged : tie.Need-mul-exchanged
+mul-exchanged c = search needs
+
+mul-exchanged-2 : tie.Need-mul-exchanged-2
+mul-exchanged-2 c = search needs
+
+add-exchanged : tie.Need-add-exchanged
+add-exchanged c = search needs
+
+cast-result : tie.Need-cast-result
+cast-result c = search needs
+
+mul-weighted : tie.Need-mul-weighted
+mul-weighted c = search needs
+
+sub-weighted : tie.Need-sub-weighted
+sub-weighted c = search needs
+
+part-weighted-start : tie.Need-part-weighted-start
+part-weighted-start c = search needs
+
+part-weighted-end : tie.Need-part-weighted-end
+part-weighted-end c = search needs
+
+slice-aggregate-weighted : tie.Need-slice-aggregate-weighted
+slice-aggregate-weighted c = search needs
+
+weighted-requires : tie.Need-weighted-requires
+weighted-requires c κs =
+    let b = c .before .before .before .before .before in
+    let row = 64 * (length (b .args .left .now) - 1) + 8 * (length (b .args .right .now) - 1) in (
+      omega arith,
+      simp (length-take, length-drop) (omega arith),
+      part-entries _ (512 - row) row tt,
+      more-weights (lit≤ tt) (sized-weights (b .args .h) (b .args .left .now) (b .pre .leftSize) (c .before .before .before .before .weights .ensures)),
+    )
+
+mul-weighted-2 : tie.Need-mul-weighted-2
+mul-weighted-2 c = search needs
+
+sub-weighted-2 : tie.Need-sub-weighted-2
+sub-weighted-2 c = search needs
+
+part-weighted-start-2 : tie.Need-part-weighted-start-2
+part-weighted-start-2 c = search needs
+
+part-weighted-end-2 : tie.Need-part-weighted-end-2
+part-weighted-end-2 c = search needs
+
+slice-aggregate-weighted-2 : tie.Need-slice-aggregate-weighted-2
+slice-aggregate-weighted-2 c = search needs
+
+weighted-requires-2 : tie.Need-weighted-requires-2
+weighted-requires-2 c κs =
+    let b = c .before .before .before .before .before .before .before .before in
+    let row = 64 * (length (b .args .right .now) - 1) + 8 * (length (b .args .left .now) - 1) in (
+      omega arith,
+      simp (length-take, length-drop) (omega arith),
+      part-entries _ (512 - row) row tt,
+      more-weights (lit≤ tt) (right-weights (b .args .h) (b .args .right .now) (b .pre .rightSize) (c .before .before .before .before .before .before .right-weights .ensures)),
+    )
+
+-- where the function starts, and the piece
+abbrev start : tie.After-weighted2 → tie.Start
+start c = c .before .before .before .before .before .before .before .before .before
+
+abbrev P : tie.After-weighted2 → Piece
+P c = piece (start c .args .h) (start c .args .left .now) (start c .args .right .now)
+
+-- the two ends, and h times their sum
+module _ (c : tie.After-weighted2) where
+  left-is : c .before .before .before .weighted .result ≡ sum (m (P c)) (λ j. p (P c) j *ℤ pos (Water·c (m (P c)) (n (P c)) j))
+  unfolding Water·c
+  left-is =
+      c .before .before .before .weighted .ensures ∙
+      sum-by-table _ tt (m (P c)) (n (P c)) (512 - (64 * m (P c) + 8 * n (P c))) (omega arith) (omega arith) (omega arith) (c .before .before .before .before .before .before .before .before .weights .result)
+      (λ j h. c .before .before .before .before .before .before .before .before .weights .ensures .entry j (omega arith))
+
+  right-is : c .weighted2 .result ≡ sum (n (P c)) (λ j. rightWeights (q (P c)) j *ℤ pos (Water·c (n (P c)) (m (P c)) j))
+  unfolding Water·c
+  right-is =
+      c .weighted2 .ensures ∙
+      sum-by-table _ tt (n (P c)) (m (P c)) (512 - (64 * n (P c) + 8 * m (P c))) (omega arith) (omega arith) (omega arith) (c .before .before .before .before .before .before .before .right-weights .result)
+      (λ j h. c .before .before .before .before .before .before .before .right-weights .ensures .entry j (omega arith))
+
+  sum-is : toZ w64 (ofZ w64 (c .before .before .before .weighted .result)) +ℤ toZ w64 (ofZ w64 (c .weighted2 .result)) ≡ weightedSum (m (P c)) (n (P c)) (p (P c)) (q (P c))
+  unfolding weightedSum
+  sum-is = ap₂ (λ x y. x +ℤ y) (result-is (c .before .before .before .weighted .result) (c .before .before .before .weighted .ok) ∙ left-is) (result-is (c .weighted2 .result) (c .weighted2 .ok) ∙ right-is)
+
+  sum-within : Within (2 * (2 * waterUnit * sizeMax)) (weightedSum (m (P c)) (n (P c)) (p (P c)) (q (P c)))
+  unfolding weightedSum
+  sum-within =
+      within-add _ _
+      (side-within (m (P c)) (n (P c)) (p (P c)) (omega arith) (omega arith) (λ j h. sized-within (P c .h) (P c .left) j (start c .pre .leftSize)))
+      (side-within (n (P c)) (m (P c)) (rightWeights (q (P c))) (omega arith) (omega arith) (λ j h. right-sized (P c .h) (P c .right) j (start c .pre .rightSize)))
+
+  sum-fits : SFits w64 (weightedSum (m (P c)) (n (P c)) (p (P c)) (q (P c)))
+  sum-fits = within-fits w64 _ (lit< tt) sum-within
+
+  total-is : toZ w64 (start c .args .h) *ℤ toZ w64 (ofZ w64 (toZ w64 (ofZ w64 (c .before .before .before .weighted .result)) +ℤ toZ w64 (ofZ w64 (c .weighted2 .result)))) ≡ total (P c)
+  unfolding total
+  total-is = ap₂ (λ x y. x *ℤ y) (toZ-pos w64 {n = start c .args .h} (omega arith)) (ap (λ z. toZ w64 (ofZ w64 z)) sum-is ∙ toZ-ofZ sum-fits)
+
+  total-fits : SFits w64 (total (P c))
+  unfolding total
+  total-fits = within-fits w64 _ (lit< tt) (within-mul (pos (P c .h)) _ (within-more (start c .pre .gapAtMost) (within-natural (P c .h))) sum-within)
+
+add-result : tie.Need-add-result
+add-result c = rw (sum-is c) (sum-fits c)
+
+mul-result : tie.Need-mul-result
+mul-result c = rw (total-is c) (total-fits c)
+
+returns : tie.Need-returns
+returns c = rw (total-is c) (toZ-ofZ (total-fits c))
+
+pub total-spec : {M : Type 1} → statement M
+total-spec =
+    tie.close
+    (tie.spec
+    sub-m
+    sub-n
+    weights-requires
+    right-weights-requires
+    slice-aggregate-table
+    mul-row
+    mul-row-2
+    add-row
+    mul-exchanged
+    mul-exchanged-2
+    add-exchanged
+    cast-result
+    mul-weighted
+    sub-weighted
+    part-weighted-start
+    part-weighted-end
+    slice-aggregate-weighted
+    weighted-requires
+    mul-weighted-2
+    sub-weighted-2
+    part-weighted-start-2
+    part-weighted-end-2
+    slice-aggregate-weighted-2
+    weighted-requires-2
+    add-result
+    mul-result
+    returns)

@@ -1,0 +1,44 @@
+// A piece at distance r from its left knot, in 1/256 step: value, in 1/65,536 count, and trend, in 1/65,536 count per step.
+ghost use mathlib.Core.Path.{_≡_};
+ghost use Prim.Native.Nat.{_*_, _≤_};
+ghost use Rattle.piece.specs.Piece.{piece};
+ghost use Rattle.piece.specs.Size.{Admitted};
+ghost use Rattle.piece.specs.Trend.{trend as Trend·trend};
+ghost use Rattle.piece.specs.Value.{value as Value·value};
+use super::half_sum::half_sum;
+use super::half_sum::lower_half_sum;
+use super::scaling::Divisor;
+use super::scaling::scaled;
+use super::slope::sum_k;
+use super::slope::y3;
+use super::weights::right_weights;
+use super::weights::weights;
+
+// The value: a half-sum from each end.
+pub fn value(h: u64, left: &[i32], right: &[i32], r: u64) -> i64
+    requires { ⌜ (Admitted (piece h (now left) (now right))) × (r ≤ 256 * h) ⌝ }
+    ensures { λ v. ⌜ v ≡ Value·value (piece h (now (left .entry)) (now (right .entry))) r ⌝ }
+{
+    let m = left.len() - 1;
+    let n = right.len() - 1;
+    let s = Divisor::of(256 * h);
+    let p = weights(h, left);
+    let q = right_weights(h, right);
+    half_sum(m, n, r, s, &p) + half_sum(n, m, s.d - r, s, &q)
+}
+
+// The trend: Y1 − Y2 + Y3, divided by h.
+pub fn trend(h: u64, left: &[i32], right: &[i32], r: u64) -> i64
+    requires { ⌜ (Admitted (piece h (now left) (now right))) × (r ≤ 256 * h) ⌝ }
+    ensures { λ z. ⌜ z ≡ Trend·trend (piece h (now (left .entry)) (now (right .entry))) r ⌝ }
+{
+    let m = left.len() - 1;
+    let n = right.len() - 1;
+    let s = Divisor::of(256 * h);
+    let p = weights(h, left);
+    let q = right_weights(h, right);
+    let y1 = lower_half_sum(m, n, r, s, &p);
+    let y2 = lower_half_sum(n, m, s.d - r, s, &q);
+    let k = sum_k(n, m, &q) - sum_k(m, n, &p);
+    scaled(y1 - y2 + y3(m, n, r, s, k), 1, Divisor::of(h))
+}

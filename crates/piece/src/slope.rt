@@ -1,0 +1,34 @@
+// K and Y3, the parts of a trend that no half-sum gives.
+ghost use mathlib.Core.Path.{_≡_};
+ghost use Prim.Native.Nat.{_*_, _≤_};
+ghost use Rattle.integer.specs.Within.{Within};
+ghost use Rattle.hermite.specs.Polynomial.{coefficient};
+ghost use Rattle.hermite.specs.Slope.{sumK};
+ghost use Rattle.piece.specs.Divisor.{Fraction};
+ghost use Rattle.piece.specs.Lists.{Weights};
+ghost use Rattle.piece.specs.Size.{sizeMax};
+ghost use Rattle.piece.specs.Trend.{scaledK};
+use super::scaling::Divisor;
+use super::scaling::scaled_times;
+use super::sums::BINOMIALS;
+use super::sums::weighted;
+
+// One of the two sums of K. What multiplies w_j there, (m+n−j+1) × binomial(m+n−j, m−j), is (n+1) × binomial(n+1+m−j, m−j):
+// n+1 times an entry of the table.
+pub fn sum_k(m: usize, n: usize, w: &[i64]) -> i64
+    requires { ⌜ (m ≤ 7) × (n ≤ 7) × (Weights sizeMax (now w)) ⌝ }
+    ensures { λ r. ⌜ r ≡ sumK m n (coefficient (now (w .entry))) ⌝ }
+{
+    let table: &[u32] = &BINOMIALS;
+    let next = n + 1;
+    let from = 8 * next + 7 - m;
+    next as i64 * weighted(m, &table[from..], w)
+}
+
+// Y3: 65,536 × K, scaled by r/d m times, then by (d−r)/d n times.
+pub fn y3(m: usize, n: usize, r: u64, s: Divisor, k: i64) -> i64
+    requires { ⌜ (Fraction r s) × (Within (2 * (91520 * sizeMax)) k) ⌝ }
+    ensures { λ y. ⌜ y ≡ scaledK m n r (s .d) k ⌝ }
+{
+    scaled_times(n, scaled_times(m, 65_536 * k, r, s), s.d - r, s)
+}
