@@ -1,11 +1,12 @@
 -- Constant tables and parts of them.
-use mathlib.Core.Path.{_≡_, _∙_}
+use mathlib.Core.Path.{_≡_, sym, _∙_, ap}
 use mathlib.Core.Bool.{Bool, true, false, _&&_}
 use mathlib.Core.List.{List, [], _∷_}
 use Prim.Native.Nat.{ℕ, zero, suc, _+_, _≤_, _<_}
+use native.Mathlib.Nat.{add-zero, zero-add, le-of-suc-le-suc}
 use native.Mathlib.Decide.{decLt}
 use native.Mathlib.Omega.{arith}
-use lib.Dec.{T, leb, leb→le}
+use lib.Dec.{T, eqb, eqb→eq, leb, leb→le}
 use lib.ListN.{getD, take, drop, length, length-take, List·getD-eq-default}
 use lib.Seq.{getD-take, getD-drop}
 use Rattle.hermite.specs.Water.{waterUnit}
@@ -14,11 +15,6 @@ use Rattle.piece.specs.Lists.{Entries}
 pub part-entry : (t : List ℕ) (k from j : ℕ) → j < k → getD (take k (drop from t)) j 0 ≡ getD t (from + j) 0
 part-entry t k from j h = rw (getD-take, getD-drop)
 
--- each entry is at most 720,720, by a test of the whole table
-abbrev pub all-small : List ℕ → Bool
-all-small [] = true
-all-small (x ∷ t) = leb x waterUnit && all-small t
-
 first : (a b : Bool) → T (a && b) → T a
 first true b t = tt
 first false b t = t
@@ -26,6 +22,24 @@ first false b t = t
 second : (a b : Bool) → T (a && b) → T b
 second true b t = t
 second false b t = absurd t
+
+-- the entries of t are f_i, f_(i+1) and so on, by a test of the whole table, one entry after the other
+abbrev pub entries-are : (ℕ → ℕ) → ℕ → List ℕ → Bool
+entries-are f i [] = true
+entries-are f i (x ∷ t) = eqb x (f i) && entries-are f (suc i) t
+
+entry-from : (f : ℕ → ℕ) (i : ℕ) (t : List ℕ) → T (entries-are f i t) → (j : ℕ) → j < length t → getD t j 0 ≡ f (i + j)
+entry-from f i [] h j b = absurd (omega arith)
+entry-from f i (x ∷ t) h zero b = eqb→eq x (f i) (first (eqb x (f i)) (entries-are f (suc i) t) h) ∙ ap f (sym (add-zero i))
+entry-from f i (x ∷ t) h (suc j) b = entry-from f (suc i) t (second (eqb x (f i)) (entries-are f (suc i) t) h) j (le-of-suc-le-suc b) ∙ ap f (omega arith)
+
+pub entry-is : (f : ℕ → ℕ) (t : List ℕ) → T (entries-are f 0 t) → (j : ℕ) → j < length t → getD t j 0 ≡ f j
+entry-is f t h j b = entry-from f 0 t h j b ∙ ap f (zero-add j)
+
+-- each entry is at most 720,720
+abbrev pub all-small : List ℕ → Bool
+all-small [] = true
+all-small (x ∷ t) = leb x waterUnit && all-small t
 
 small : (t : List ℕ) → T (all-small t) → (j : ℕ) → getD t j 0 ≤ waterUnit
 small [] h j = omega arith

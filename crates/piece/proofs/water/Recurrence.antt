@@ -1,26 +1,35 @@
 -- The table of integral weights: all its 512 entries are those of the recurrence, by one computed test, and so the sums that it gives are those of Water.
-use mathlib.Core.Path.{_≡_, _∙_, ap}
+use mathlib.Core.Path.{_≡_, refl, _∙_, ap}
 use mathlib.Core.List.{List}
-use Prim.Native.Nat.{ℕ, _+_, _*_, _≤_, _<_}
+use Prim.Native.Nat.{ℕ, _+_, _*_, _-_, _/_, _%_, _≤_, _<_}
 use native.Mathlib.Omega.{arith}
 use lib.Dec.{T}
 use lib.IntN.{ℤ, pos, _*ℤ_, *ℤ-comm}
-use lib.ListN.{getD, take, drop}
+use lib.ListN.{getD, take, drop, length}
 use Rattle.integer.specs.Sum.{sum}
-use Rattle.integer.proofs.Claim.{Claim, _≗_, upto, test, sound}
 use Rattle.integer.proofs.Sum.{sum-cong}
 use Rattle.hermite.specs.Polynomial.{coefficient}
 use Rattle.hermite.specs.Water.{c}
 use Rattle.piece.proofs.Agree.{Agree}
 use Rattle.piece.proofs.Machine.{term}
-use Rattle.piece.proofs.Tables.{part-entry}
+use Rattle.piece.proofs.Tables.{entries-are, entry-is, part-entry}
 
--- the entry of t for the grades m and n and the order j is c_j
-abbrev pub recurrence : List ℕ → Claim
-recurrence t = upto 7 (λ m. upto 7 (λ n. upto 7 (λ j. getD t (64 * m + 8 * n + j) 0 ≗ c m n j)))
+-- the entry at 64 m + 8 n + j is c_j for the grades m and n
+abbrev pub weight-at : ℕ → ℕ
+weight-at k = c (k / 64) (k / 8 % 8) (k % 8)
 
-pub sum-by-table : (t : List ℕ) → T (test (recurrence t)) → (m n k : ℕ) → m ≤ 7 → n ≤ 7 → m < k → (w : List ℤ) {v : ℕ → ℤ} → Agree m (coefficient w) v → sum m (term (take k (drop (64 * m + 8 * n) t)) w) ≡ sum m (λ j. v j *ℤ pos (c m n j))
-sum-by-table t right m n k hm hn hk w {v} agree = sum-cong m _ _ (λ j h. ap (λ x. pos x *ℤ coefficient w j) (entry j h) ∙ *ℤ-comm (pos (c m n j)) (coefficient w j) ∙ ap (λ x. x *ℤ pos (c m n j)) (agree j h))
-  where
-    entry : (j : ℕ) → j ≤ m → getD (take k (drop (64 * m + 8 * n) t)) j 0 ≡ c m n j
-    entry j h = part-entry t k (64 * m + 8 * n) j (omega arith) ∙ sound (recurrence t) right m hm n hn j (omega arith)
+module _ (t : List ℕ) (right : T (entries-are weight-at 0 t)) (all : length t ≡ 512) where
+  entry : (m n j : ℕ) → m ≤ 7 → n ≤ 7 → j ≤ 7 → getD t (64 * m + 8 * n + j) 0 ≡ c m n j
+  entry m n j hm hn hj =
+      let a : (64 * m + 8 * n + j) / 64 ≡ m = omega arith in
+      let b : (64 * m + 8 * n + j) / 8 % 8 ≡ n = omega arith in
+      let d : (64 * m + 8 * n + j) % 8 ≡ j = omega arith in
+      entry-is weight-at t right (64 * m + 8 * n + j) (omega (arith, all)) ∙ rw (a, b, d) refl
+
+  -- the sum of one end
+  pub sum-by-table : (m n : ℕ) → m ≤ 7 → n ≤ 7 → (w : List ℤ) {v : ℕ → ℤ} → Agree m (coefficient w) v →
+      sum m (term (take (512 - (64 * m + 8 * n)) (drop (64 * m + 8 * n) t)) w) ≡ sum m (λ j. v j *ℤ pos (c m n j))
+  sum-by-table m n hm hn w agree =
+      sum-cong m _ _ (λ j h.
+      ap (λ x. pos x *ℤ coefficient w j) (part-entry t (512 - (64 * m + 8 * n)) (64 * m + 8 * n) j (omega arith) ∙ entry m n j hm hn (omega arith)) ∙ *ℤ-comm (pos (c m n j)) (coefficient w j) ∙
+      ap (λ x. x *ℤ pos (c m n j)) (agree j h))

@@ -78,10 +78,9 @@ product-is : (c : tie.After-weighted) → let b = c .before .before .before in
 unfolding binomial
 product-is c =
     let b = c .before .before .before in
-    let from = 8 * (b .args .n + 1) + 7 - b .args .m in
     ap₂ (λ x y. x *ℤ y) (toZ-pos w64 {n = b .args .n + 1} (omega arith))
     (result-is (c .weighted .result) (c .weighted .ok) ∙ c .weighted .ensures ∙
-    g-by-rows _ tt (b .args .n + 1) (b .args .m) (72 - from) from (omega arith) (omega arith) (omega arith) refl (b .args .w .now)) ∙
+    g-by-rows _ tt refl (b .args .n + 1) (b .args .m) (omega arith) (omega arith) (b .args .w .now)) ∙
     sym (sumK-by-g (b .args .m) (b .args .n) (coefficient (b .args .w .now)) (b .pre .0) (b .pre .1))
 
 product-fits : (c : tie.After-weighted) → let b = c .before .before .before in SFits w64 (sumK (b .args .m) (b .args .n) (coefficient (b .args .w .now)))

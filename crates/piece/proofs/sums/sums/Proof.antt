@@ -93,7 +93,7 @@ loop-again c =
       omega arith,
       filled-more _ (l .loop .inv .1) (omega arith)
           (result-is (c .weighted .result) (c .weighted .ok) ∙ c .weighted .ensures ∙
-          g-by-rows _ tt (l .before .before .args .n) (l .loop .i) (72 - from) from (omega arith) (omega arith) (omega arith) refl (l .before .before .args .w .now)),
+          g-by-rows _ tt refl (l .before .before .args .n) (l .loop .i) (omega arith) (omega arith) (l .before .before .args .w .now)),
     )
 
 -- src/sums.rt:40:1

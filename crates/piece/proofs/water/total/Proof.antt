@@ -1,6 +1,6 @@
 -- `piece::water::total` meets its contract: the table gives each end's sum, and h times their sum fits.
 use borrow.Author.Needs.{needs}
-use mathlib.Core.Path.{_≡_, sym, _∙_, ap, ap₂}
+use mathlib.Core.Path.{_≡_, refl, sym, _∙_, ap, ap₂}
 use Prim.Native.Nat.{ℕ, _+_, _-_, _*_, _^_, _≤_}
 use native.Mathlib.Omega.{arith}
 use lib.Dec.{lit<, lit≤}
@@ -129,14 +129,14 @@ module _ (c : tie.After-weighted2) where
   unfolding Water·c
   left-is =
       c .before .before .before .weighted .ensures ∙
-      sum-by-table _ tt (m (P c)) (n (P c)) (512 - (64 * m (P c) + 8 * n (P c))) (omega arith) (omega arith) (omega arith) (c .before .before .before .before .before .before .before .before .weights .result)
+      sum-by-table _ tt refl (m (P c)) (n (P c)) (omega arith) (omega arith) (c .before .before .before .before .before .before .before .before .weights .result)
       (λ j h. c .before .before .before .before .before .before .before .before .weights .ensures .entry j (omega arith))
 
   right-is : c .weighted2 .result ≡ sum (n (P c)) (λ j. rightWeights (q (P c)) j *ℤ pos (Water·c (n (P c)) (m (P c)) j))
   unfolding Water·c
   right-is =
       c .weighted2 .ensures ∙
-      sum-by-table _ tt (n (P c)) (m (P c)) (512 - (64 * n (P c) + 8 * m (P c))) (omega arith) (omega arith) (omega arith) (c .before .before .before .before .before .before .before .right-weights .result)
+      sum-by-table _ tt refl (n (P c)) (m (P c)) (omega arith) (omega arith) (c .before .before .before .before .before .before .before .right-weights .result)
       (λ j h. c .before .before .before .before .before .before .before .right-weights .ensures .entry j (omega arith))
 
   sum-is : toZ w64 (ofZ w64 (c .before .before .before .weighted .result)) +ℤ toZ w64 (ofZ w64 (c .weighted2 .result)) ≡ weightedSum (m (P c)) (n (P c)) (p (P c)) (q (P c))
