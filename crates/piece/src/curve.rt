@@ -1,18 +1,18 @@
 // A piece at distance r from its left knot, in 1/256 step: value, in 1/65,536 count, and trend, in 1/65,536 count per step.
 ghost use mathlib.Core.Path.{_≡_};
 ghost use Prim.Native.Nat.{_*_, _≤_};
-ghost use Rattle.piece.specs.Piece.{piece};
-ghost use Rattle.piece.specs.Size.{Admitted};
-ghost use Rattle.piece.specs.Trend.{trend as Trend·trend};
-ghost use Rattle.piece.specs.Value.{value as Value·value};
-use super::half_sum::half_sum;
-use super::half_sum::lower_half_sum;
-use super::scaling::Divisor;
-use super::scaling::scaled;
+ghost use Rattle.rounding.specs.Piece.{piece};
+ghost use Rattle.rounding.specs.Size.{Admitted};
+ghost use Rattle.rounding.specs.Trend.{trend as Trend·trend};
+ghost use Rattle.rounding.specs.Value.{value as Value·value};
+use half_sum::half_sum;
+use half_sum::lower_half_sum;
+use half_sum::Divisor;
+use half_sum::scaled;
 use super::slope::sum_k;
 use super::slope::y3;
-use super::weights::right_weights;
-use super::weights::weights;
+use half_sum::right_weights;
+use half_sum::weights;
 
 // The value: a half-sum from each end.
 pub fn value(h: u64, left: &[i32], right: &[i32], r: u64) -> i64

@@ -4,14 +4,14 @@ ghost use Prim.Native.Nat.{_*_, _≤_};
 ghost use Rattle.integer.specs.Within.{Within};
 ghost use Rattle.hermite.specs.Polynomial.{coefficient};
 ghost use Rattle.hermite.specs.Slope.{sumK};
-ghost use Rattle.piece.specs.Divisor.{Fraction};
-ghost use Rattle.piece.specs.Lists.{Weights};
-ghost use Rattle.piece.specs.Size.{sizeMax};
-ghost use Rattle.piece.specs.Trend.{scaledK};
-use super::scaling::Divisor;
-use super::scaling::scaled_times;
-use super::sums::BINOMIALS;
-use super::sums::weighted;
+ghost use Rattle.half_sum.specs.Divisor.{Fraction};
+ghost use Rattle.half_sum.specs.Lists.{Weights};
+ghost use Rattle.rounding.specs.Size.{sizeMax};
+ghost use Rattle.rounding.specs.Trend.{scaledK};
+use half_sum::Divisor;
+use half_sum::scaled_times;
+use half_sum::BINOMIALS;
+use half_sum::weighted;
 
 // One of the two sums of K. What multiplies w_j there, (m+n−j+1) × binomial(m+n−j, m−j), is (n+1) × binomial(n+1+m−j, m−j):
 // n+1 times an entry of the table.

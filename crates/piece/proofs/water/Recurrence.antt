@@ -10,9 +10,9 @@ use Rattle.integer.specs.Sum.{sum}
 use Rattle.integer.proofs.Sum.{sum-cong}
 use Rattle.hermite.specs.Polynomial.{coefficient}
 use Rattle.hermite.specs.Water.{c}
-use Rattle.piece.proofs.Agree.{Agree}
-use Rattle.piece.proofs.Machine.{term}
-use Rattle.piece.proofs.Tables.{entries-are, entry-is, part-entry}
+use Rattle.rounding.proofs.Agree.{Agree}
+use Rattle.half_sum.proofs.Machine.{term}
+use Rattle.half_sum.proofs.Tables.{entries-are, entry-is, part-entry}
 
 -- the entry at 64 m + 8 n + j is c_j for the grades m and n
 abbrev pub weight-at : ℕ → ℕ

@@ -15,25 +15,17 @@ use Rattle.hermite.specs.Blend.{rightWeights}
 use Rattle.hermite.specs.HalfSum.{valueUnit}
 use Rattle.hermite.specs.Polynomial.{coefficient}
 use Rattle.hermite.specs.Slope.{sumK, K}
-use Rattle.piece.specs.HalfSum.{lowerHalfSum}
-use Rattle.piece.specs.Piece.{Piece, piece, m, n, p, q, D}
-use Rattle.piece.specs.Scaling.{rounded, scaled}
-use Rattle.piece.specs.Size.{sizeMax}
-use Rattle.piece.specs.Trend.{Y1, Y2, Y3, scaledK, trend}
-use Rattle.piece.proofs.Agree.{lowerHalfSum-agree, sumK-agree}
-use Rattle.piece.proofs.Bounds.{sized-within, right-sized, sized-weights, right-weights, lower-within, sumK-within, scaledK-within}
-use Rattle.piece.proofs.Machine.{result-is}
+use Rattle.rounding.specs.HalfSum.{lowerHalfSum}
+use Rattle.rounding.specs.Piece.{Piece, piece, m, n, p, q, D}
+use Rattle.rounding.specs.Scaling.{rounded, scaled}
+use Rattle.rounding.specs.Size.{sizeMax}
+use Rattle.rounding.specs.Trend.{Y1, Y2, Y3, scaledK, trend}
+use Rattle.rounding.proofs.Agree.{lowerHalfSum-agree, sumK-agree}
+use Rattle.rounding.proofs.Bounds.{sized-within, right-sized, lower-within, sumK-within, scaledK-within}
+use Rattle.half_sum.proofs.Lists.{sized-weights, right-weights}
+use Rattle.half_sum.proofs.Machine.{result-is}
 use Rattle.piece.proofs.curve.trend.Statement.{statement}
 use Rattle.piece.proofs.curve.trend.Tie as tie
-use Rattle.piece.proofs.curve.trend.Reads as reads
-use Rattle.piece.proofs.curve.trend.Lts as lts
-use Rattle.piece.proofs.half_sum.lower_half_sum.Reads as lower-half-sum-reads
-use Rattle.piece.proofs.scaling.Divisor.of.Reads as of-reads
-use Rattle.piece.proofs.scaling.scaled.Reads as scaled-reads
-use Rattle.piece.proofs.slope.sum_k.Reads as sum-k-reads
-use Rattle.piece.proofs.slope.y3.Reads as y3-reads
-use Rattle.piece.proofs.weights.right_weights.Reads as right-weights-reads
-use Rattle.piece.proofs.weights.weights.Reads as weights-reads
 
 sub-m : tie.Need-sub-m
 sub-m c = search needs

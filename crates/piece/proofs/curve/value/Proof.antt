@@ -13,50 +13,37 @@ use Rattle.integer.specs.Within.{Within}
 use Rattle.integer.proofs.Within.{within-add, within-fits}
 use Rattle.hermite.specs.Blend.{rightWeights}
 use Rattle.hermite.specs.Polynomial.{coefficient}
-use Rattle.piece.specs.HalfSum.{halfSum}
-use Rattle.piece.specs.Piece.{Piece, piece, m, n, p, q, D}
-use Rattle.piece.specs.Value.{value}
-use Rattle.piece.proofs.Agree.{halfSum-agree}
-use Rattle.piece.proofs.Bounds.{sized-within, right-sized, sized-weights, right-weights, more-weights, half-within}
-use Rattle.piece.proofs.Machine.{result-is}
+use Rattle.rounding.specs.HalfSum.{halfSum}
+use Rattle.rounding.specs.Piece.{Piece, piece, m, n, p, q, D}
+use Rattle.rounding.specs.Value.{value}
+use Rattle.rounding.proofs.Agree.{halfSum-agree}
+use Rattle.rounding.proofs.Bounds.{sized-within, right-sized, half-within}
+use Rattle.half_sum.proofs.Lists.{sized-weights, right-weights, more-weights}
+use Rattle.half_sum.proofs.Machine.{result-is}
 use Rattle.piece.proofs.curve.value.Statement.{statement}
 use Rattle.piece.proofs.curve.value.Tie as tie
-use Rattle.piece.proofs.curve.value.Reads as reads
-use Rattle.piece.proofs.curve.value.Lts as lts
-use Rattle.piece.proofs.half_sum.half_sum.Reads as half-sum-reads
-use Rattle.piece.proofs.scaling.Divisor.of.Reads as of-reads
-use Rattle.piece.proofs.weights.right_weights.Reads as right-weights-reads
-use Rattle.piece.proofs.weights.weights.Reads as weights-reads
 
--- src/curve.rt:17:13
 sub-m : tie.Need-sub-m
 sub-m c = search needs
 
--- src/curve.rt:18:13
 sub-n : tie.Need-sub-n
 sub-n c = search needs
 
--- src/curve.rt:19:25
 mul-of : tie.Need-mul-of
 mul-of c = search needs
 
--- src/curve.rt:19:9
 of-requires : tie.Need-of-requires
 of-requires c κs = search needs
 
--- src/curve.rt:20:13
 weights-requires : tie.Need-weights-requires
 weights-requires c κs = search needs
 
--- src/curve.rt:21:13
 right-weights-requires : tie.Need-right-weights-requires
 right-weights-requires c κs = search needs
 
--- src/curve.rt:22:26
 slice-aggregate-half-sum : tie.Need-slice-aggregate-half-sum
 slice-aggregate-half-sum c = search needs
 
--- src/curve.rt:22:5
 half-sum-requires : tie.Need-half-sum-requires
 half-sum-requires c κs =
     let b = c .before .before .before .before in
@@ -67,15 +54,12 @@ half-sum-requires c κs =
       more-weights (lit≤ tt) (sized-weights (b .args .h) (b .args .left .now) (b .pre .0 .leftSize) (c .before .before .weights .ensures)),
     )
 
--- src/curve.rt:22:47
 sub-half-sum : tie.Need-sub-half-sum
 sub-half-sum c = search needs
 
--- src/curve.rt:22:59
 slice-aggregate-half-sum-2 : tie.Need-slice-aggregate-half-sum-2
 slice-aggregate-half-sum-2 c = search needs
 
--- src/curve.rt:22:32
 half-sum-requires-2 : tie.Need-half-sum-requires-2
 half-sum-requires-2 c κs =
     let b = c .before .before .before .before .before .before .before in

@@ -14,65 +14,51 @@ use Rattle.hermite.specs.Binomial.{binomial}
 use Rattle.hermite.specs.HalfSum.{g}
 use Rattle.hermite.specs.Polynomial.{coefficient}
 use Rattle.hermite.specs.Slope.{sumK}
-use Rattle.piece.proofs.Bounds.{more-weights, sumK-within}
+use Rattle.rounding.proofs.Bounds.{sumK-within}
+use Rattle.half_sum.proofs.Lists.{more-weights}
 use Rattle.piece.proofs.slope.Sums.{sumK-by-g}
-use Rattle.piece.proofs.sums.Rows.{g-by-rows}
-use Rattle.piece.proofs.Tables.{part-entries}
-use Rattle.piece.proofs.Machine.{result-is}
+use Rattle.half_sum.proofs.Rows.{g-by-rows}
+use Rattle.half_sum.proofs.Tables.{part-entries}
+use Rattle.half_sum.proofs.Machine.{result-is}
 use Rattle.piece.proofs.slope.sum_k.Statement.{statement}
 use Rattle.piece.proofs.slope.sum_k.Tie as tie
-use Rattle.piece.proofs.slope.sum_k.Reads as reads
-use Rattle.piece.proofs.slope.sum_k.Lts as lts
-use Rattle.piece.proofs.sums.weighted.Reads as weighted-reads
 
--- src/slope.rt:22:9
 slice-aggregate-table : tie.Need-slice-aggregate-table
 slice-aggregate-table c = search needs
 
--- src/slope.rt:23:16
 add-next : tie.Need-add-next
 add-next c = search needs
 
--- src/slope.rt:24:16
 mul-from : tie.Need-mul-from
 mul-from c = search needs
 
--- src/slope.rt:24:16
 add-from : tie.Need-add-from
 add-from c = search needs
 
--- src/slope.rt:24:16
 sub-from : tie.Need-sub-from
 sub-from c = search needs
 
--- src/slope.rt:25:5
 cast-result : tie.Need-cast-result
 cast-result c = search needs
 
--- src/slope.rt:25:31
 mul-weighted : tie.Need-mul-weighted
 mul-weighted c = search needs
 
--- src/slope.rt:25:31
 sub-weighted : tie.Need-sub-weighted
 sub-weighted c = search needs
 
--- src/slope.rt:25:31
 part-weighted-start : tie.Need-part-weighted-start
 part-weighted-start c = search needs
 
--- src/slope.rt:25:31
 part-weighted-end : tie.Need-part-weighted-end
 part-weighted-end c = search needs
 
--- src/slope.rt:25:19
 weighted-requires : tie.Need-weighted-requires
 weighted-requires c κs =
     let b = c .before .before in
     let from = 8 * (b .args .n + 1) + 7 - b .args .m in
     (omega arith, simp (length-take, length-drop) (omega arith), part-entries _ (72 - from) from tt, more-weights (lit≤ tt) (b .pre .2))
 
--- src/slope.rt:25:5
 product-is : (c : tie.After-weighted) → let b = c .before .before .before in
     toZ w64 (b .args .n + 1) *ℤ toZ w64 (ofZ w64 (c .weighted .result)) ≡ sumK (b .args .m) (b .args .n) (coefficient (b .args .w .now))
 unfolding binomial
@@ -91,7 +77,6 @@ product-fits c =
 mul-result : tie.Need-mul-result
 mul-result c = rw (product-is c) (product-fits c)
 
--- src/slope.rt:18:1
 returns : tie.Need-returns
 returns c = rw (product-is c) (toZ-ofZ (product-fits c))
 

@@ -11,16 +11,13 @@ use mir.Facts.{toZ-ofZ}
 use Rattle.integer.specs.Within.{Within}
 use Rattle.integer.proofs.Within.{within-natural, within-more, within-mul, within-fits}
 use Rattle.hermite.specs.HalfSum.{valueUnit}
-use Rattle.piece.specs.Scaling.{scaledTimes}
-use Rattle.piece.specs.Size.{sizeMax}
-use Rattle.piece.specs.Trend.{scaledK}
-use Rattle.piece.proofs.Bounds.{times-within}
-use Rattle.piece.proofs.Machine.{result-is}
+use Rattle.rounding.specs.Scaling.{scaledTimes}
+use Rattle.rounding.specs.Size.{sizeMax}
+use Rattle.rounding.specs.Trend.{scaledK}
+use Rattle.rounding.proofs.Bounds.{times-within}
+use Rattle.half_sum.proofs.Machine.{result-is}
 use Rattle.piece.proofs.slope.y3.Statement.{statement}
 use Rattle.piece.proofs.slope.y3.Tie as tie
-use Rattle.piece.proofs.slope.y3.Reads as reads
-use Rattle.piece.proofs.slope.y3.Lts as lts
-use Rattle.piece.proofs.scaling.scaled_times.Reads as scaled-times-reads
 
 -- 65,536 × k
 module _ (b : tie.Start) where
@@ -41,19 +38,15 @@ first-is c =
     result-is (c .scaled-times .result) (c .scaled-times .ok) ∙ c .scaled-times .ensures ∙
     ap (λ z. scaledTimes (b .args .m) z (b .args .r) (b .args .s .d)) (ap (λ z. toZ w64 (ofZ w64 z)) (unit-is b) ∙ toZ-ofZ (unit-fits b))
 
--- src/slope.rt:33:37
 mul-scaled-times : tie.Need-mul-scaled-times
 mul-scaled-times c = rw (unit-is c) (unit-fits c)
 
--- src/slope.rt:33:21
 scaled-times-requires : tie.Need-scaled-times-requires
 scaled-times-requires c κs = (c .pre .0, rw (unit-is c, toZ-ofZ (unit-fits c)) (unit-within c))
 
--- src/slope.rt:33:56
 sub-scaled-times : tie.Need-sub-scaled-times
 sub-scaled-times c = search needs
 
--- src/slope.rt:33:5
 scaled-times-requires-2 : tie.Need-scaled-times-requires-2
 scaled-times-requires-2 c κs =
     let b = c .before .before in (
@@ -61,7 +54,6 @@ scaled-times-requires-2 c κs =
       rw (first-is (c .before)) (times-within (b .args .m) _ (b .args .r) (b .args .s .d) (b .pre .0 .divides .atLeast) (b .pre .0 .proper) (unit-within b)),
     )
 
--- src/slope.rt:29:1
 returns : tie.Need-returns
 unfolding scaledK
 returns c =

@@ -15,20 +15,16 @@ use Rattle.integer.proofs.Within.{within-natural, within-more, within-add, with
 use Rattle.hermite.specs.Blend.{rightWeights}
 use Rattle.hermite.specs.Water.{waterUnit, weightedSum}
 use Rattle.hermite.specs.Water.{c as Water·c}
-use Rattle.piece.specs.Piece.{Piece, piece, m, n, p, q}
-use Rattle.piece.specs.Size.{sizeMax}
-use Rattle.piece.specs.Water.{total}
-use Rattle.piece.proofs.Bounds.{sized-within, right-sized, sized-weights, right-weights, more-weights, side-within}
-use Rattle.piece.proofs.Machine.{result-is}
-use Rattle.piece.proofs.Tables.{part-entries}
+use Rattle.rounding.specs.Piece.{Piece, piece, m, n, p, q}
+use Rattle.rounding.specs.Size.{sizeMax}
+use Rattle.rounding.specs.Water.{total}
+use Rattle.rounding.proofs.Bounds.{sized-within, right-sized, side-within}
+use Rattle.half_sum.proofs.Lists.{sized-weights, right-weights, more-weights}
+use Rattle.half_sum.proofs.Machine.{result-is}
+use Rattle.half_sum.proofs.Tables.{part-entries}
 use Rattle.piece.proofs.water.Recurrence.{sum-by-table}
 use Rattle.piece.proofs.water.total.Statement.{statement}
 use Rattle.piece.proofs.water.total.Tie as tie
-use Rattle.piece.proofs.water.total.Reads as reads
-use Rattle.piece.proofs.water.total.Lts as lts
-use Rattle.piece.proofs.sums.weighted.Reads as weighted-reads
-use Rattle.piece.proofs.weights.right_weights.Reads as right-weights-reads
-use Rattle.piece.proofs.weights.weights.Reads as weights-reads
 
 sub-m : tie.Need-sub-m
 sub-m c = search needs

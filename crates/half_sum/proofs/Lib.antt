@@ -1,0 +1,4 @@
+pub mod Lists
+pub mod Machine
+pub mod Tables
+pub mod Rows

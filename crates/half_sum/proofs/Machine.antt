@@ -1,0 +1,58 @@
+-- Whole numbers in the machine's 64 bits: the result of a call, and sums of products c_j × w_j, of which up to 8 fit.
+use mathlib.Core.Path.{_≡_, refl}
+use mathlib.Core.List.{List}
+use Prim.Native.Nat.{ℕ, zero, suc, _+_, _*_, _^_, _≤_, _<_}
+use native.Mathlib.Nat.{mul-le-mul-right, lt-of-le-of-lt}
+use native.Mathlib.Numerals.{add-one}
+use native.Mathlib.Omega.{arith}
+use lib.Dec.{lit<}
+use lib.IntN.{ℤ, pos, _+ℤ_, _*ℤ_}
+use lib.ListN.{getD}
+use lib.Signed.{mag}
+use mir.Syntax.{w64}
+use mir.Val.{SFits, toZ, ofZ}
+use mir.Facts.{toZ-ofZ, toZ-pos}
+use Rattle.integer.specs.Sum.{sum}
+use Rattle.integer.specs.Within.{Within}
+use Rattle.integer.proofs.Within.{within-natural, within-more, within-mul, within-add, within-fits}
+use Rattle.hermite.specs.Polynomial.{coefficient}
+use Rattle.hermite.specs.Water.{waterUnit}
+use Rattle.half_sum.specs.Lists.{Entries, Weights}
+use Rattle.rounding.specs.Size.{sizeMax}
+
+-- a call's result, as it is held
+pub result-is : (z : ℤ) → mag z < 2 ^ 63 → toZ w64 (ofZ w64 z) ≡ z
+result-is z h = toZ-ofZ (record { sfits = h })
+
+abbrev pub term : List ℕ → List ℤ → ℕ → ℤ
+term c w j = pos (getD c j 0) *ℤ coefficient w j
+
+-- a sum of terms of one bound
+sum-within : {B : ℕ} (m : ℕ) (f : ℕ → ℤ) → ((j : ℕ) → j ≤ m → Within B (f j)) → Within ((m + 1) * B) (sum m f)
+unfolding sum
+sum-within {B} zero f h = within-more (omega arith) (h zero (omega arith))
+sum-within {B} (suc m) f h = within-more (omega arith) (within-add (sum m f) (f (suc m)) (sum-within m f (λ j k. h j (omega arith))) (h (suc m) (omega arith)))
+
+module _ (c : List ℕ) (w : List ℤ) (entries : Entries c) (weights : Weights (7 * sizeMax) w) where
+  pub entry-fits : (j : ℕ) → SFits w64 (pos (getD c j 0))
+  entry-fits j = record { sfits = omega (arith, entries .small j) }
+
+  pub machine-term : (j : ℕ) → j ≤ 7 → toZ w64 (getD c j 0) *ℤ toZ w64 (ofZ w64 (coefficient w j)) ≡ term c w j
+  machine-term j h = rw (toZ-ofZ (within-fits w64 (coefficient w j) (lit< tt) (weights .small j h)), toZ-pos w64 {n = getD c j 0} (omega (arith, entries .small j))) refl
+
+  term-within : (j : ℕ) → j ≤ 7 → Within (waterUnit * (7 * sizeMax)) (term c w j)
+  term-within j h = within-mul (pos (getD c j 0)) (coefficient w j) (within-more (entries .small j) (within-natural (getD c j 0))) (weights .small j h)
+
+  pub term-fits : (j : ℕ) → j ≤ 7 → SFits w64 (term c w j)
+  term-fits j h = within-fits w64 (term c w j) (lit< tt) (term-within j h)
+
+  pub sum-fits : (m : ℕ) → m ≤ 7 → SFits w64 (sum m (term c w))
+  sum-fits m h =
+      let terms : m + 1 ≤ 8 = omega arith in
+      within-fits w64 (sum m (term c w)) (lt-of-le-of-lt (mul-le-mul-right (waterUnit * (7 * sizeMax)) terms) (lit< tt)) (sum-within m (term c w) (λ j k. term-within j (omega arith)))
+
+  -- the sum with one term more
+  pub machine-sum : (x : ℤ) (j : ℕ) → j + 1 ≤ 7 → x ≡ sum j (term c w) →
+      x +ℤ toZ w64 (ofZ w64 (toZ w64 (getD c (j + 1) 0) *ℤ toZ w64 (ofZ w64 (coefficient w (j + 1))))) ≡ sum (j + 1) (term c w)
+  unfolding sum
+  machine-sum x j h e = rw (machine-term (j + 1) h, toZ-ofZ (term-fits (j + 1) h), e, add-one) refl

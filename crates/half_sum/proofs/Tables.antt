@@ -1,0 +1,54 @@
+-- Constant tables and parts of them.
+use mathlib.Core.Path.{_≡_, sym, _∙_, ap}
+use mathlib.Core.Bool.{Bool, true, false, _&&_}
+use mathlib.Core.List.{List, [], _∷_}
+use Prim.Native.Nat.{ℕ, zero, suc, _+_, _≤_, _<_}
+use native.Mathlib.Nat.{add-zero, zero-add, le-of-suc-le-suc}
+use native.Mathlib.Decide.{decLt}
+use native.Mathlib.Omega.{arith}
+use lib.Dec.{T, eqb, eqb→eq, leb, leb→le}
+use lib.ListN.{getD, take, drop, length, length-take, List·getD-eq-default}
+use lib.Seq.{getD-take, getD-drop}
+use Rattle.hermite.specs.Water.{waterUnit}
+use Rattle.half_sum.specs.Lists.{Entries}
+
+pub part-entry : (t : List ℕ) (k from j : ℕ) → j < k → getD (take k (drop from t)) j 0 ≡ getD t (from + j) 0
+part-entry t k from j h = rw (getD-take, getD-drop)
+
+first : (a b : Bool) → T (a && b) → T a
+first true b t = tt
+first false b t = t
+
+second : (a b : Bool) → T (a && b) → T b
+second true b t = t
+second false b t = absurd t
+
+-- the entries of t are f_i, f_(i+1) and so on, by a test of the whole table, one entry after the other
+abbrev pub entries-are : (ℕ → ℕ) → ℕ → List ℕ → Bool
+entries-are f i [] = true
+entries-are f i (x ∷ t) = eqb x (f i) && entries-are f (suc i) t
+
+entry-from : (f : ℕ → ℕ) (i : ℕ) (t : List ℕ) → T (entries-are f i t) → (j : ℕ) → j < length t → getD t j 0 ≡ f (i + j)
+entry-from f i [] h j b = absurd (omega arith)
+entry-from f i (x ∷ t) h zero b = eqb→eq x (f i) (first (eqb x (f i)) (entries-are f (suc i) t) h) ∙ ap f (sym (add-zero i))
+entry-from f i (x ∷ t) h (suc j) b = entry-from f (suc i) t (second (eqb x (f i)) (entries-are f (suc i) t) h) j (le-of-suc-le-suc b) ∙ ap f (omega arith)
+
+pub entry-is : (f : ℕ → ℕ) (t : List ℕ) → T (entries-are f 0 t) → (j : ℕ) → j < length t → getD t j 0 ≡ f j
+entry-is f t h j b = entry-from f 0 t h j b ∙ ap f (zero-add j)
+
+-- each entry is at most 720,720
+abbrev pub all-small : List ℕ → Bool
+all-small [] = true
+all-small (x ∷ t) = leb x waterUnit && all-small t
+
+small : (t : List ℕ) → T (all-small t) → (j : ℕ) → getD t j 0 ≤ waterUnit
+small [] h j = omega arith
+small (x ∷ t) h zero = leb→le x waterUnit (first (leb x waterUnit) (all-small t) h)
+small (x ∷ t) h (suc j) = small t (second (leb x waterUnit) (all-small t) h) j
+
+pub part-entries : (t : List ℕ) (k from : ℕ) → T (all-small t) → Entries (take k (drop from t))
+part-entries t k from h = record { small = λ j. go j (decLt j k) }
+  where
+    go : (j : ℕ) → Dec (j < k) → getD (take k (drop from t)) j 0 ≤ waterUnit
+    go j (yes b) = rw (part-entry t k from j b) (small t h (from + j))
+    go j (no b) = rw (List·getD-eq-default (take k (drop from t)) 0 {n = j} (simp length-take (omega arith))) (omega arith)

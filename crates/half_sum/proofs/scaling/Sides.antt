@@ -1,0 +1,41 @@
+-- Scaling on either side of 0: u × a / d rounded down, of a natural u and of a negative one, by division of naturals.
+use mathlib.Core.Path.{_≡_, refl, sym, _∙_, ap}
+use mathlib.Core.Bool.{true, false, true≢false}
+use Prim.Native.Nat.{ℕ, suc, _+_, _*_, _-_, _/_, _%_, _≤_, _<_}
+use native.Mathlib.Nat.{div-add-mod', mod-lt, zero-add}
+use native.Mathlib.Omega.{arith}
+use borrow.Author.Tests.{ltb-true}
+use lib.Dec.{T, ltb}
+use lib.IntN.{ℤ, pos, negsuc, natAbs, _+ℤ_, _-ℤ_, _*ℤ_}
+use lib.Signed.{ltZ, nonNeg}
+use Rattle.integer.specs.Floor.{Floor}
+use Rattle.integer.specs.Within.{Within}
+use Rattle.integer.proofs.Floor.{floor, one-floor}
+use Rattle.integer.proofs.Difference.{_⊖_, as-⊖, differences}
+use Rattle.rounding.specs.Scaling.{rounded, scaled}
+
+not-below : (n : ℕ) → ltb n 0 ≡ true → ⊥
+not-below n e = omega (arith, ltb-true n 0 e)
+
+-- from 0 on
+pub natural-magnitude : {B : ℕ} (u : ℤ) → ltZ u (pos 0) ≡ false → Within B u → T (nonNeg u) × (natAbs u ≤ B)
+natural-magnitude (pos n) e w = (tt, w .hi)
+natural-magnitude (negsuc n) e w = absurd (true≢false e)
+
+pub natural-scaled : (u : ℤ) (a d : ℕ) → ltZ u (pos 0) ≡ false → pos (natAbs u * a / d) ≡ scaled u a d
+unfolding scaled rounded
+natural-scaled (pos n) a d e = refl
+natural-scaled (negsuc n) a d e = absurd (true≢false e)
+
+-- below 0: −N × a / d = −N + N × (d − a) / d
+pub negative-magnitude : {B : ℕ} (u : ℤ) → ltZ u (pos 0) ≡ true → Within B u → T (nonNeg (pos 0 -ℤ u)) × (natAbs (pos 0 -ℤ u) ≤ B)
+negative-magnitude (pos n) e w = absurd (not-below n e)
+negative-magnitude (negsuc n) e w = (tt, omega (arith, w .lo))
+
+pub negative-scaled : (u : ℤ) (a d : ℕ) → ltZ u (pos 0) ≡ true → a ≤ d → 0 < d → u +ℤ pos (natAbs (pos 0 -ℤ u) * (d - a) / d) ≡ scaled u a d
+unfolding scaled rounded
+negative-scaled (pos n) a d e h k = absurd (not-below n e)
+negative-scaled (negsuc n) a d e h k = rw zero-add (one-floor (record { rest = suc n * (d - a) % d; small = mod-lt (suc n * (d - a)) k; whole = whole (negsuc n) (suc n) (d - a) (suc n * (d - a) / d) (suc n * (d - a) % d) (as-⊖ (negsuc n)) (omega arith) (div-add-mod' (suc n * (d - a)) d) }) (floor (negsuc n *ℤ pos a) d k))
+  where
+    whole : (u : ℤ) (N b q r : ℕ) → u ≡ 0 ⊖ N → d ≡ a + b → q * d + r ≡ N * b → u *ℤ pos a ≡ (u +ℤ pos q) *ℤ pos d +ℤ pos r
+    whole u N b q r e f g = rw e (simp differences (omega (arith, g, ap (λ x. N * x) f)))

@@ -1,0 +1,68 @@
+-- `half_sum::scaling::part` meets its contract: the two parts are u × a / d, which is at most u.
+use borrow.Author.Needs.{needs}
+use mathlib.Core.Path.{_≡_, _∙_, ap}
+use Prim.Native.Nat.{ℕ, _+_, _*_, _/_, _%_, _^_, _≤_, _<_}
+use native.Mathlib.Nat.{mod-lt, mul-le-mul, div-le-self}
+use native.Mathlib.Omega.{arith}
+use lib.Dec.{lit≤}
+use mir.Syntax.{w64}
+use mir.Val.{Fits}
+use mir.Facts.{fits-le, fits-lit}
+use Rattle.half_sum.specs.Divisor.{Fraction}
+use Rattle.half_sum.specs.declared.scaling.Divisor.{Divisor}
+use Rattle.half_sum.proofs.scaling.Parts.{by-reciprocal, in-parts, part-below}
+use Rattle.half_sum.proofs.scaling.part.Statement.{statement}
+use Rattle.half_sum.proofs.scaling.part.Tie as tie
+
+module _ (u a : ℕ) (s : Divisor) (known : Fraction a s) where
+  below-divisor : u % s .d + 1 ≤ 4096
+  below-divisor = omega (arith, mod-lt u (known .divides .atLeast))
+
+  rest-small : u % s .d * a ≤ 4095 * 4096
+  rest-small = mul-le-mul {n₂ = 4095} {m₂ = 4096} (omega (arith, below-divisor)) (omega arith)
+
+  inverse-small : s .inverse ≤ 2 ^ 36 + 1
+  inverse-small = omega (arith, known .divides .reciprocal, div-le-self (2 ^ 36) (s .d))
+
+  product-fits : Fits w64 (u % s .d * a * s .inverse)
+  product-fits = fits-le (mul-le-mul rest-small inverse-small) (fits-lit tt)
+
+  whole : u / s .d * a + u % s .d * a * s .inverse / 2 ^ 36 ≡ u * a / s .d
+  whole =
+      ap (λ y. u / s .d * a + u % s .d * a * y / 2 ^ 36) (known .divides .reciprocal) ∙
+      ap (λ y. u / s .d * a + y) (by-reciprocal (2 ^ 36) (s .d) (u % s .d * a) (known .divides .atLeast) below) ∙ in-parts u a (s .d) (known .divides .atLeast)
+    where
+      below : u % s .d * a * s .d < 2 ^ 36
+      below = omega (arith, mul-le-mul rest-small (known .divides .atMost))
+
+  whole-small : u / s .d * a + u % s .d * a * s .inverse / 2 ^ 36 ≤ u
+  whole-small = rw whole (part-below u a (s .d) (known .proper))
+
+  first-small : u / s .d * a ≤ u
+  first-small = omega (arith, whole-small)
+
+div-result : tie.Need-div-result
+div-result c = search needs
+
+mul-result : tie.Need-mul-result
+mul-result c = let b = c .before in fits-le (first-small (b .args .u) (b .args .a) (b .args .s) (b .pre)) (b .fits .u)
+
+rem-result : tie.Need-rem-result
+rem-result c = search needs
+
+mul-result-2 : tie.Need-mul-result-2
+mul-result-2 c = let b = c .before .before in fits-le (rest-small (b .args .u) (b .args .a) (b .args .s) (b .pre)) (fits-lit tt)
+
+mul-result-3 : tie.Need-mul-result-3
+mul-result-3 c = let b = c .before .before .before in product-fits (b .args .u) (b .args .a) (b .args .s) (b .pre)
+
+add-result : tie.Need-add-result
+add-result c = let b = c .before .before .before in fits-le (whole-small (b .args .u) (b .args .a) (b .args .s) (b .pre)) (b .fits .u)
+
+returns : tie.Need-returns
+returns c = let b = c .before .before .before in whole (b .args .u) (b .args .a) (b .args .s) (b .pre)
+
+pub part-spec : {M : Type 1} → statement M
+part-spec =
+    tie.close
+    (tie.spec div-result mul-result rem-result mul-result-2 mul-result-3 add-result returns)

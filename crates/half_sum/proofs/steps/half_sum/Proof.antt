@@ -1,0 +1,87 @@
+-- `half_sum::steps::half_sum` meets its contract: the array of step 1 stands for the sums g_i, to order 7.
+use borrow.Author.Needs.{needs}
+use mathlib.Core.Path.{_≡_, refl, sym, _∙_, ap}
+use mathlib.Core.List.{List}
+use Prim.Native.Nat.{ℕ, _+_, _-_, _*_, _^_, _≤_}
+use native.Mathlib.Nat.{le-trans, mul-le-mul-right}
+use native.Mathlib.Omega.{arith}
+use lib.Dec.{lit<, lit≤}
+use lib.IntN.{ℤ}
+use mir.Syntax.{w64}
+use mir.Facts.{toZ-ofZ}
+use Rattle.integer.specs.Within.{Within}
+use Rattle.integer.proofs.Within.{within-more}
+use Rattle.hermite.specs.HalfSum.{valueUnit, g}
+use Rattle.hermite.specs.Polynomial.{coefficient}
+use Rattle.rounding.specs.HalfSum.{descended, halfSum}
+use Rattle.half_sum.specs.Lists.{Lists, Weights}
+use Rattle.rounding.specs.Scaling.{scaledTimes}
+use Rattle.rounding.specs.Size.{sizeMax}
+use Rattle.rounding.proofs.Agree.{descended-agree}
+use Rattle.rounding.proofs.Bounds.{g-within, descended-within}
+use Rattle.half_sum.proofs.Machine.{result-is}
+use Rattle.half_sum.proofs.steps.half_sum.Statement.{statement}
+use Rattle.half_sum.proofs.steps.half_sum.Tie as tie
+
+sums-requires : tie.Need-sums-requires
+sums-requires c κs = search needs
+
+add-scaled-times : tie.Need-add-scaled-times
+add-scaled-times c = search needs
+
+slice-aggregate-descended : tie.Need-slice-aggregate-descended
+slice-aggregate-descended c = search needs
+
+descended-requires : tie.Need-descended-requires
+descended-requires c κs =
+    let b = c .before .before in (
+      b .pre .0,
+      b .pre .2,
+      record {
+        count = c .before .sums .ensures .count;
+        small = λ j h. rw (c .before .sums .ensures .entry j h) (g-within (7 * sizeMax) (b .args .n) j (coefficient (b .args .w .now)) (b .pre .1) h (λ i k. b .pre .3 .small i (omega arith)));
+      },
+    )
+
+-- u of step 2
+module _ (c : tie.After-descended) where
+  u-is : let b = c .before .before .before in c .descended .result ≡ descended (g (b .args .n) (coefficient (b .args .w .now))) (b .args .a) (b .args .s .d) (b .args .m) 0
+  u-is =
+      let b = c .before .before .before in
+      c .descended .ensures ∙ descended-agree (b .args .a) (b .args .s .d) (b .args .m) 0 (λ j h. c .before .before .sums .ensures .entry j (omega arith))
+
+  u-within : Within (2 ^ 63 - 1) (c .descended .result)
+  u-within =
+      let b = c .before .before .before in
+      let rounds : b .args .m + 1 ≤ 8 = omega arith in
+      rw u-is
+      (within-more (le-trans (mul-le-mul-right (valueUnit * (6435 * (7 * sizeMax))) rounds) (lit≤ tt))
+      (descended-within (6435 * (7 * sizeMax)) _ (b .args .a) (b .args .s .d) (b .args .m) 0 (b .pre .2 .divides .atLeast) (b .pre .2 .proper)
+      (λ j h. g-within (7 * sizeMax) (b .args .n) j (coefficient (b .args .w .now)) (b .pre .1) (omega arith) (λ i k. b .pre .3 .small i (omega arith)))))
+
+sub-scaled-times : tie.Need-sub-scaled-times
+sub-scaled-times c = search needs
+
+scaled-times-requires : tie.Need-scaled-times-requires
+scaled-times-requires c κs =
+    let b = c .before .before .before .before in
+    (record { divides = b .pre .2 .divides; proper = omega arith }, rw (result-is (c .before .descended .result) (c .before .descended .ok)) (u-within (c .before)))
+
+returns : tie.Need-returns
+unfolding halfSum
+returns c =
+    let b = c .before .before .before .before .before in
+    result-is (c .scaled-times .result) (c .scaled-times .ok) ∙ c .scaled-times .ensures ∙
+    ap (λ z. scaledTimes (b .args .n + 1) z (b .args .s .d - b .args .a) (b .args .s .d)) (result-is (c .before .before .descended .result) (c .before .before .descended .ok) ∙ u-is (c .before .before))
+
+pub half-sum-spec : {M : Type 1} → statement M
+half-sum-spec =
+    tie.close
+    (tie.spec
+    sums-requires
+    add-scaled-times
+    slice-aggregate-descended
+    descended-requires
+    sub-scaled-times
+    scaled-times-requires
+    returns)

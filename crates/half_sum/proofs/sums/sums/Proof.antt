@@ -1,0 +1,105 @@
+-- `half_sum::sums::sums` meets its contract. After i turns the array holds g_0 to g_(i−1).
+use mathlib.Core.Path.{_≡_, refl, sym, _∙_, ap}
+use Prim.Native.Nat.{ℕ, _+_, _-_, _*_, _≤_}
+use native.Mathlib.Omega.{arith}
+use lib.IntN.{pos}
+use lib.ListN.{length-take, length-drop}
+use mir.Syntax.{w64}
+use mir.Facts.{toZ-ofZ}
+use Rattle.hermite.specs.Binomial.{binomial}
+use Rattle.hermite.specs.HalfSum.{g as HalfSum·g}
+use Rattle.hermite.specs.Polynomial.{coefficient}
+use Rattle.half_sum.proofs.Lists.{Filled, filled-zeros, filled-more, filled-lists}
+use Rattle.half_sum.proofs.Rows.{g-by-rows}
+use Rattle.half_sum.proofs.Tables.{part-entries}
+use Rattle.half_sum.proofs.Machine.{result-is}
+use Rattle.half_sum.proofs.sums.sums.Statement.{statement}
+use Rattle.half_sum.proofs.sums.sums.Tie as tie
+
+abbrev Inv-loop : tie.InvT-loop
+Inv-loop n w table g₀ i₀ g i = (i ≤ 8) × (Filled g (HalfSum·g n (coefficient w)) (λ j. pos 0) i)
+
+abbrev μ-loop : tie.MeasureT-loop
+μ-loop n w table g₀ i₀ g i = 8 - i
+
+slice-aggregate-table : tie.Need-slice-aggregate-table Inv-loop μ-loop
+slice-aggregate-table c = refl
+
+loop-holds : tie.Need-loop-holds Inv-loop μ-loop
+loop-holds c = (omega arith, filled-zeros _)
+
+mul-from : tie.Need-mul-from Inv-loop μ-loop
+mul-from c = omega arith
+
+add-from : tie.Need-add-from Inv-loop μ-loop
+add-from c = omega arith
+
+sub-from : tie.Need-sub-from Inv-loop μ-loop
+sub-from c = omega arith
+
+mul-weighted : tie.Need-mul-weighted Inv-loop μ-loop
+mul-weighted c = omega arith
+
+sub-weighted : tie.Need-sub-weighted Inv-loop μ-loop
+sub-weighted c = omega arith
+
+part-weighted-start : tie.Need-part-weighted-start Inv-loop μ-loop
+part-weighted-start c = omega arith
+
+part-weighted-end : tie.Need-part-weighted-end Inv-loop μ-loop
+part-weighted-end c = omega arith
+
+weighted-requires : tie.Need-weighted-requires Inv-loop μ-loop
+weighted-requires c κs =
+    let l = c .before .before in
+    let from = 8 * l .before .before .args .n + 7 - l .loop .i in
+    (omega arith, simp (length-take, length-drop) (omega arith), part-entries _ (72 - from) from tt, l .before .before .pre .1)
+
+mul-g : tie.Need-mul-g Inv-loop μ-loop
+mul-g c = omega arith
+
+array-set-from-g : tie.Need-array-set-from-g Inv-loop μ-loop
+array-set-from-g c = omega arith
+
+add-i : tie.Need-add-i Inv-loop μ-loop
+add-i c = omega arith
+
+loop-less : tie.Need-loop-less Inv-loop μ-loop
+loop-less c = omega arith
+
+loop-again : tie.Need-loop-again Inv-loop μ-loop
+unfolding binomial
+loop-again c =
+    let l = c .before .before .before in
+    let from = 8 * l .before .before .args .n + 7 - l .loop .i in (
+      omega arith,
+      filled-more _ (l .loop .inv .1) (omega arith)
+          (result-is (c .weighted .result) (c .weighted .ok) ∙ c .weighted .ensures ∙
+          g-by-rows _ tt refl (l .before .before .args .n) (l .loop .i) (omega arith) (omega arith) (l .before .before .args .w .now)),
+    )
+
+returns : tie.Need-returns Inv-loop μ-loop
+returns c = filled-lists (c .before .loop .inv .1) (λ j h b. absurd (omega arith))
+
+pub sums-spec : {M : Type 1} → statement M
+sums-spec =
+    tie.close
+    (tie.spec
+    Inv-loop
+    μ-loop
+    slice-aggregate-table
+    loop-holds
+    mul-from
+    add-from
+    sub-from
+    mul-weighted
+    sub-weighted
+    part-weighted-start
+    part-weighted-end
+    weighted-requires
+    mul-g
+    array-set-from-g
+    add-i
+    loop-less
+    loop-again
+    returns)

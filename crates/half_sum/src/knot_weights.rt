@@ -1,0 +1,64 @@
+// The weights of a knot for a piece of h steps, in order of j; 0 above the grade.
+ghost use Prim.Native.Nat.{_≤_};
+ghost use lib.ListN.{length};
+ghost use Rattle.hermite.specs.Blend.{rightWeights};
+ghost use Rattle.hermite.specs.Polynomial.{coefficient};
+ghost use Rattle.hermite.specs.Slope.{primed as Slope·primed};
+ghost use Rattle.half_sum.specs.Lists.{Lists, Weights};
+ghost use Rattle.rounding.specs.Piece.{weight};
+ghost use Rattle.rounding.specs.Size.{Sized, sizeMax};
+
+// C_j × h^j: p_j of a left knot, q_j of a right one.
+pub fn weights(h: u64, c: &[i32]) -> [i64; 8]
+    requires { ⌜ (h ≤ 16) × (length (now c) ≤ 8) ⌝ }
+    ensures { λ w. ⌜ Lists w (weight h (now (c .entry))) ⌝ }
+{
+    let mut w = [0i64; 8];
+    let mut power = 1;
+    let mut j = 0;
+    while j < c.len() {
+        w[j] = c[j] as i64 * power as i64;
+        power *= h;
+        j += 1;
+    }
+    w
+}
+
+// (−1)^j × q_j.
+fn alternated(q: [i64; 8]) -> [i64; 8]
+    requires { ⌜ Weights sizeMax q ⌝ }
+    ensures { λ w. ⌜ Lists w (rightWeights (coefficient q)) ⌝ }
+{
+    let mut w = q;
+    let mut sign = 1;
+    let mut j = 0;
+    while j < 8 {
+        w[j] = sign * w[j];
+        sign = -sign;
+        j += 1;
+    }
+    w
+}
+
+// Right weights: (−1)^j × q_j of the right knot.
+pub fn right_weights(h: u64, c: &[i32]) -> [i64; 8]
+    requires { ⌜ (h ≤ 16) × (length (now c) ≤ 8) × (Sized h (now c)) ⌝ }
+    ensures { λ w. ⌜ Lists w (rightWeights (weight h (now (c .entry)))) ⌝ }
+{
+    alternated(weights(h, c))
+}
+
+// w'_j = (j+1) × w_(j+1).
+pub fn primed(w: &[i64]) -> [i64; 8]
+    requires { ⌜ Weights sizeMax (now w) ⌝ }
+    ensures { λ v. ⌜ Lists v (Slope·primed (coefficient (now (w .entry)))) ⌝ }
+{
+    let mut v = [0i64; 8];
+    let mut j = 0;
+    while j < 7 {
+        let next = j + 1;
+        v[j] = next as i64 * w[next];
+        j = next;
+    }
+    v
+}

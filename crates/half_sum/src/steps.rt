@@ -1,0 +1,48 @@
+// Half-sums of grade m against n, with fraction a/d.
+ghost use mathlib.Core.Path.{_≡_};
+ghost use Prim.Native.Nat.{_*_, _≤_};
+ghost use Rattle.hermite.specs.Polynomial.{coefficient};
+ghost use Rattle.half_sum.specs.Divisor.{Fraction};
+ghost use Rattle.rounding.specs.HalfSum.{descended as HalfSum·descended, halfSum, lowerHalfSum};
+ghost use Rattle.half_sum.specs.Lists.{Weights};
+ghost use Rattle.rounding.specs.Size.{sizeMax};
+use super::scaling::Divisor;
+use super::scaling::scaled;
+use super::scaling::scaled_times;
+use super::sums::sums;
+use super::knot_weights::primed;
+
+// Step 2: u from m down to 0, over the sums g_i.
+fn descended(m: usize, a: u64, s: Divisor, g: &[i64]) -> i64
+    requires { ⌜ (m ≤ 7) × (Fraction a s) × (Weights (6435 * (7 * sizeMax)) (now g)) ⌝ }
+    ensures { λ r. ⌜ r ≡ HalfSum·descended (coefficient (now (g .entry))) a (s .d) m 0 ⌝ }
+{
+    let mut i = m;
+    let mut u = 65_536 * g[i];
+    while 0 < i {
+        i -= 1;
+        u = scaled(u, a, s) + 65_536 * g[i];
+    }
+    u
+}
+
+// The three steps.
+pub fn half_sum(m: usize, n: usize, a: u64, s: Divisor, w: &[i64]) -> i64
+    requires { ⌜ (m ≤ 7) × (n ≤ 7) × (Fraction a s) × (Weights (7 * sizeMax) (now w)) ⌝ }
+    ensures { λ r. ⌜ r ≡ halfSum m n a (s .d) (coefficient (now (w .entry))) ⌝ }
+{
+    let g = sums(n, w);
+    scaled_times(n + 1, descended(m, a, s, &g), s.d - a, s)
+}
+
+// The half-sum of m−1 against n on w'; half-sums of grade −1 are 0.
+pub fn lower_half_sum(m: usize, n: usize, a: u64, s: Divisor, w: &[i64]) -> i64
+    requires { ⌜ (m ≤ 7) × (n ≤ 7) × (Fraction a s) × (Weights sizeMax (now w)) ⌝ }
+    ensures { λ r. ⌜ r ≡ lowerHalfSum m n a (s .d) (coefficient (now (w .entry))) ⌝ }
+{
+    if m == 0 {
+        return 0;
+    }
+    let v = primed(w);
+    half_sum(m - 1, n, a, s, &v)
+}

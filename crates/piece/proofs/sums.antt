@@ -1,2 +1,0 @@
--- What the proofs of `sums` use.
-pub mod Rows

@@ -1,0 +1,6 @@
+pub mod Agree
+pub mod Bounds
+pub mod Distance
+pub mod Taylor
+pub mod Integral
+pub mod KnownResults
