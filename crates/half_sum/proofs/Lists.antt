@@ -1,11 +1,11 @@
 -- Arrays of weights: filled from the front by a loop, one entry a turn; and how large their entries are.
-use mathlib.Core.Path.{_≡_, refl, sym, _∙_, ap}
+use mathlib.Core.Path.{_≡_, refl, sym, _∙_}
 use mathlib.Core.List.{List}
-use Prim.Native.Nat.{ℕ, suc, _+_, _*_, _≤_, _<_}
+use Prim.Native.Nat.{ℕ, _+_, _*_, _≤_, _<_}
 use native.Mathlib.Decide.{decLt, ℕ-discrete}
 use native.Mathlib.Omega.{arith}
-use lib.IntN.{ℤ, pos, _*ℤ_, *ℤ-zero}
-use lib.ListN.{length, set, length-set, getD-replicate, length-replicate, replicate, List·getD-eq-default}
+use lib.IntN.{ℤ, pos, *ℤ-zero}
+use lib.ListN.{length, set, length-set, getD-replicate, replicate, List·getD-eq-default}
 use lib.Seq.{getD-set-same, getD-set-other}
 use Rattle.integer.specs.Within.{Within}
 use Rattle.integer.proofs.Within.{within-natural, within-more}

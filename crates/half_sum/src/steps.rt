@@ -6,11 +6,11 @@ ghost use Rattle.half_sum.specs.Divisor.{Fraction};
 ghost use Rattle.rounding.specs.HalfSum.{descended as HalfSum·descended, halfSum, lowerHalfSum};
 ghost use Rattle.half_sum.specs.Lists.{Weights};
 ghost use Rattle.rounding.specs.Size.{sizeMax};
+use super::knot_weights::primed;
 use super::scaling::Divisor;
 use super::scaling::scaled;
 use super::scaling::scaled_times;
 use super::sums::sums;
-use super::knot_weights::primed;
 
 // Step 2: u from m down to 0, over the sums g_i.
 fn descended(m: usize, a: u64, s: Divisor, g: &[i64]) -> i64

@@ -5,13 +5,13 @@ ghost use Rattle.rounding.specs.Piece.{piece};
 ghost use Rattle.rounding.specs.Size.{Admitted};
 ghost use Rattle.rounding.specs.Trend.{trend as Trend·trend};
 ghost use Rattle.rounding.specs.Value.{value as Value·value};
-use half_sum::half_sum;
-use half_sum::lower_half_sum;
-use half_sum::Divisor;
-use half_sum::scaled;
 use super::slope::sum_k;
 use super::slope::y3;
+use half_sum::Divisor;
+use half_sum::half_sum;
+use half_sum::lower_half_sum;
 use half_sum::right_weights;
+use half_sum::scaled;
 use half_sum::weights;
 
 // The value: a half-sum from each end.

@@ -8,9 +8,9 @@ ghost use Rattle.half_sum.specs.Divisor.{Fraction};
 ghost use Rattle.half_sum.specs.Lists.{Weights};
 ghost use Rattle.rounding.specs.Size.{sizeMax};
 ghost use Rattle.rounding.specs.Trend.{scaledK};
+use half_sum::BINOMIALS;
 use half_sum::Divisor;
 use half_sum::scaled_times;
-use half_sum::BINOMIALS;
 use half_sum::weighted;
 
 // One of the two sums of K. What multiplies w_j there, (m+n−j+1) × binomial(m+n−j, m−j), is (n+1) × binomial(n+1+m−j, m−j):

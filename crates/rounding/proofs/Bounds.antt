@@ -3,18 +3,15 @@ use mathlib.Core.Path.{_≡_}
 use mathlib.Core.List.{List}
 use Prim.Native.Nat.{ℕ, zero, suc, _+_, _*_, _-_, _^_, _≤_, _<_}
 use native.Mathlib.Nat.{le-trans, mul-le-mul-left, mul-le-mul-right, div-le-of-le-mul, div-lt-iff-lt-mul}
-use native.Mathlib.Decide.{decLt}
 use native.Mathlib.Omega.{arith}
 use lib.Dec.{lit≤}
-use lib.IntN.{ℤ, pos, negsuc, _+ℤ_, _*ℤ_, *ℤ-zero}
-use lib.ListN.{List·getD-eq-default}
+use lib.IntN.{ℤ, pos, negsuc, _*ℤ_}
 use Rattle.integer.specs.Sum.{sum}
 use Rattle.integer.specs.Within.{Within}
 use Rattle.integer.proofs.Claim.{_≗_, upto, sound}
 use Rattle.integer.proofs.Within.{shares, within-sum, within-more, within-add, within-mul, within-neg, within-natural}
 use Rattle.hermite.specs.Binomial.{binomial, sign}
 use Rattle.hermite.specs.Blend.{rightWeights}
-use Rattle.hermite.specs.Polynomial.{coefficient}
 use Rattle.hermite.specs.HalfSum.{valueUnit, g}
 use Rattle.hermite.specs.Slope.{primed, kappa, sumK}
 use Rattle.hermite.specs.Water.{waterUnit, c}

@@ -1,6 +1,6 @@
 -- Division of naturals in two parts, and of a small natural by a reciprocal.
 use mathlib.Core.Path.{_≡_, sym, _∙_, ap}
-use Prim.Native.Nat.{ℕ, suc, _+_, _*_, _/_, _%_, _≤_, _<_}
+use Prim.Native.Nat.{ℕ, _+_, _*_, _/_, _%_, _≤_, _<_}
 use native.Mathlib.Nat.{div-add-mod', mod-lt, mul-le-mul-left, mul-le-mul-right, lt-of-mul-lt-mul-right, div-eq-of-lt-le, div-le-of-le-mul, add-mul-div-left}
 use native.Mathlib.Omega.{arith}
 

@@ -1,5 +1,5 @@
 -- Scaling on either side of 0: u × a / d rounded down, of a natural u and of a negative one, by division of naturals.
-use mathlib.Core.Path.{_≡_, refl, sym, _∙_, ap}
+use mathlib.Core.Path.{_≡_, refl, ap}
 use mathlib.Core.Bool.{true, false, true≢false}
 use Prim.Native.Nat.{ℕ, suc, _+_, _*_, _-_, _/_, _%_, _≤_, _<_}
 use native.Mathlib.Nat.{div-add-mod', mod-lt, zero-add}
@@ -8,7 +8,6 @@ use borrow.Author.Tests.{ltb-true}
 use lib.Dec.{T, ltb}
 use lib.IntN.{ℤ, pos, negsuc, natAbs, _+ℤ_, _-ℤ_, _*ℤ_}
 use lib.Signed.{ltZ, nonNeg}
-use Rattle.integer.specs.Floor.{Floor}
 use Rattle.integer.specs.Within.{Within}
 use Rattle.integer.proofs.Floor.{floor, one-floor}
 use Rattle.integer.proofs.Difference.{_⊖_, as-⊖, differences}

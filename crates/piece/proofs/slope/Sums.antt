@@ -1,8 +1,7 @@
 -- A sum of K is a multiple of a sum g_i, so that the table of binomials serves it.
-use mathlib.Core.Path.{_≡_, sym, _∙_, ap}
+use mathlib.Core.Path.{_≡_, _∙_, ap}
 use mathlib.Core.List.{[], _∷_}
 use Prim.Native.Nat.{ℕ, _+_, _*_, _-_, _≤_}
-use native.Mathlib.Omega.{arith}
 use lib.IntN.{ℤ, pos, _*ℤ_}
 use Rattle.integer.proofs.Claim.{_≗_, upto, sound}
 use Rattle.integer.proofs.Ring.{lets, solve, terms}

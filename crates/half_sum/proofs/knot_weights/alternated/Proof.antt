@@ -1,19 +1,17 @@
 -- `half_sum::knot_weights::alternated` meets its contract. After j turns the first j weights have their signs, and sign is (−1)^j.
-use mathlib.Core.Path.{_≡_, refl, sym, _∙_, ap}
-use Prim.Native.Nat.{ℕ, zero, suc, _+_, _-_, _*_, _^_, _≤_}
+use mathlib.Core.Path.{_≡_, refl, _∙_, ap}
+use Prim.Native.Nat.{ℕ, _-_, _≤_}
 use native.Mathlib.Numerals.{add-one}
 use native.Mathlib.Omega.{arith}
 use lib.Dec.{lit<}
-use lib.IntN.{ℤ, pos, negℤ, _-ℤ_, _*ℤ_, +ℤ-idl}
+use lib.IntN.{pos, negℤ, _-ℤ_, _*ℤ_, +ℤ-idl}
 use mir.Syntax.{w64}
 use mir.Val.{SFits, toZ, ofZ}
 use mir.Facts.{toZ-ofZ}
-use Rattle.integer.specs.Within.{Within}
-use Rattle.integer.proofs.Within.{within-natural, within-neg, within-mul, within-fits}
 use Rattle.hermite.specs.Binomial.{sign as Binomial·sign}
+use Rattle.integer.proofs.Within.{within-neg, within-mul, within-fits}
 use Rattle.hermite.specs.Blend.{rightWeights}
 use Rattle.hermite.specs.Polynomial.{coefficient}
-use Rattle.rounding.specs.Size.{sizeMax}
 use Rattle.rounding.proofs.Bounds.{sign-within}
 use Rattle.half_sum.proofs.Lists.{Filled, filled-none, filled-more, filled-lists}
 use Rattle.half_sum.proofs.knot_weights.alternated.Statement.{statement}

@@ -1,17 +1,17 @@
 -- `half_sum::knot_weights::primed` meets its contract. After j turns the array holds the first j numbers w'; w'_7 is 0.
 use mathlib.Core.Path.{_≡_, refl, sym, _∙_, ap}
-use Prim.Native.Nat.{ℕ, _+_, _-_, _*_, _^_, _≤_}
+use Prim.Native.Nat.{_+_, _-_, _≤_}
 use native.Mathlib.Omega.{arith}
 use lib.Dec.{lit<}
-use lib.IntN.{ℤ, pos, _*ℤ_, *ℤ-zero}
+use lib.IntN.{pos, _*ℤ_, *ℤ-zero}
 use lib.ListN.{List·getD-eq-default}
 use mir.Syntax.{w64}
 use mir.Val.{SFits, toZ, ofZ}
 use mir.Facts.{toZ-ofZ, toZ-pos}
-use Rattle.integer.specs.Within.{Within}
-use Rattle.integer.proofs.Within.{within-natural, within-more, within-mul, within-fits}
-use Rattle.hermite.specs.Polynomial.{coefficient}
 use Rattle.hermite.specs.Slope.{primed as Slope·primed}
+use Rattle.integer.specs.Within.{Within}
+use Rattle.integer.proofs.Within.{within-fits}
+use Rattle.hermite.specs.Polynomial.{coefficient}
 use Rattle.rounding.specs.Size.{sizeMax}
 use Rattle.rounding.proofs.Bounds.{primed-within}
 use Rattle.half_sum.proofs.Lists.{Filled, filled-zeros, filled-more, filled-lists}

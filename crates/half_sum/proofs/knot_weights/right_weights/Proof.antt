@@ -4,7 +4,6 @@ use mathlib.Core.Path.{_∙_, ap}
 use lib.IntN.{_*ℤ_}
 use Rattle.hermite.specs.Binomial.{sign}
 use Rattle.hermite.specs.Blend.{rightWeights}
-use Rattle.half_sum.specs.Lists.{Lists}
 use Rattle.half_sum.proofs.Lists.{sized-weights}
 use Rattle.half_sum.proofs.knot_weights.right_weights.Statement.{statement}
 use Rattle.half_sum.proofs.knot_weights.right_weights.Tie as tie

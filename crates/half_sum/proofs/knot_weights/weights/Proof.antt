@@ -1,12 +1,11 @@
 -- `half_sum::knot_weights::weights` meets its contract. After j turns the array holds the first j weights and power is h^j.
 use mathlib.Core.Path.{_≡_, refl, sym, _∙_, ap}
-use mathlib.Core.List.{List}
-use Prim.Native.Nat.{ℕ, _+_, _*_, _-_, _^_, _≤_, _<_}
+use Prim.Native.Nat.{ℕ, _-_, _^_, _≤_}
 use native.Mathlib.Nat.{pow-zero, pow-suc, pow-le-pow-left, pow-le-pow-right, le-trans, lt-of-le-of-lt, mul-le-mul}
 use native.Mathlib.Numerals.{add-one}
 use native.Mathlib.Omega.{arith}
-use lib.Dec.{lit<, lit≤}
-use lib.IntN.{ℤ, pos, _*ℤ_, zero-*ℤ}
+use lib.Dec.{lit<}
+use lib.IntN.{pos, _*ℤ_, zero-*ℤ}
 use lib.ListN.{length, List·getD-eq-default}
 use mir.Syntax.{w64, w32}
 use mir.Val.{SFits, toZ, ofZ}

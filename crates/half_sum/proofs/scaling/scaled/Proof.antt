@@ -1,12 +1,12 @@
 -- `half_sum::scaling::scaled` meets its contract, on either side of 0.
 use borrow.Author.Needs.{needs}
-use mathlib.Core.Path.{_≡_, sym, _∙_, ap}
-use Prim.Native.Nat.{ℕ, _+_, _*_, _-_, _/_, _^_, _≤_, _<_}
+use mathlib.Core.Path.{_≡_}
+use Prim.Native.Nat.{ℕ, _*_, _-_, _/_, _^_, _≤_}
 use native.Mathlib.Omega.{arith}
 use lib.Dec.{lit<}
 use lib.IntN.{ℤ, pos, natAbs, negℤ, _+ℤ_, _-ℤ_}
 use mir.Syntax.{w64}
-use mir.Val.{Fits, SFits}
+use mir.Val.{SFits}
 use mir.Facts.{toZ-ofZ, toZ-pos, fits-le, fits-lit}
 use Rattle.integer.specs.Within.{Within}
 use Rattle.integer.proofs.Within.{within-natural, within-add, within-neg, within-fits}

@@ -1,12 +1,11 @@
 -- `half_sum::scaling::scaled_times` meets its contract. The invariant: after i turns v is u scaled i times.
 use mathlib.Core.Path.{_≡_, refl, _∙_, ap}
-use Prim.Native.Nat.{ℕ, _+_, _-_, _^_, _≤_}
+use Prim.Native.Nat.{_-_, _≤_}
 use native.Mathlib.Numerals.{add-one}
 use native.Mathlib.Omega.{arith}
 use mir.Syntax.{w64}
 use mir.Val.{toZ}
 use mir.Facts.{toZ-ofZ}
-use Rattle.integer.specs.Within.{Within}
 use Rattle.rounding.specs.Scaling.{scaled, scaledTimes}
 use Rattle.rounding.proofs.Bounds.{times-within}
 use Rattle.half_sum.proofs.Machine.{result-is}

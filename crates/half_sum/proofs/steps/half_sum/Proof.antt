@@ -1,20 +1,15 @@
 -- `half_sum::steps::half_sum` meets its contract: the array of step 1 stands for the sums g_i, to order 7.
 use borrow.Author.Needs.{needs}
-use mathlib.Core.Path.{_≡_, refl, sym, _∙_, ap}
-use mathlib.Core.List.{List}
-use Prim.Native.Nat.{ℕ, _+_, _-_, _*_, _^_, _≤_}
+use mathlib.Core.Path.{_≡_, _∙_, ap}
+use Prim.Native.Nat.{_+_, _-_, _*_, _^_, _≤_}
 use native.Mathlib.Nat.{le-trans, mul-le-mul-right}
 use native.Mathlib.Omega.{arith}
-use lib.Dec.{lit<, lit≤}
-use lib.IntN.{ℤ}
-use mir.Syntax.{w64}
-use mir.Facts.{toZ-ofZ}
+use lib.Dec.{lit≤}
 use Rattle.integer.specs.Within.{Within}
 use Rattle.integer.proofs.Within.{within-more}
 use Rattle.hermite.specs.HalfSum.{valueUnit, g}
 use Rattle.hermite.specs.Polynomial.{coefficient}
 use Rattle.rounding.specs.HalfSum.{descended, halfSum}
-use Rattle.half_sum.specs.Lists.{Lists, Weights}
 use Rattle.rounding.specs.Scaling.{scaledTimes}
 use Rattle.rounding.specs.Size.{sizeMax}
 use Rattle.rounding.proofs.Agree.{descended-agree}

@@ -1,16 +1,12 @@
 -- `half_sum::steps::lower_half_sum` meets its contract: grade −1, and the half-sum on the array of w'.
 use borrow.Author.Needs.{needs}
-use mathlib.Core.Path.{_≡_, refl, sym, _∙_, ap}
-use Prim.Native.Nat.{ℕ, suc, _+_, _-_, _*_, _≤_}
+use mathlib.Core.Path.{_≡_, refl, _∙_}
+use Prim.Native.Nat.{ℕ, suc, _-_}
 use native.Mathlib.Omega.{arith}
 use lib.IntN.{ℤ}
-use mir.Facts.{toZ-ofZ}
-use Rattle.integer.specs.Within.{Within}
 use Rattle.hermite.specs.Polynomial.{coefficient}
 use Rattle.hermite.specs.Slope.{primed}
 use Rattle.rounding.specs.HalfSum.{halfSum, lowerHalfSum}
-use Rattle.half_sum.specs.Lists.{Lists, Weights}
-use Rattle.rounding.specs.Size.{sizeMax}
 use Rattle.rounding.proofs.Agree.{halfSum-agree}
 use Rattle.half_sum.proofs.Lists.{primed-weights}
 use Rattle.half_sum.proofs.Machine.{result-is}

@@ -1,13 +1,11 @@
 -- `half_sum::sums::sums` meets its contract. After i turns the array holds g_0 to g_(i−1).
-use mathlib.Core.Path.{_≡_, refl, sym, _∙_, ap}
-use Prim.Native.Nat.{ℕ, _+_, _-_, _*_, _≤_}
+use mathlib.Core.Path.{refl, _∙_}
+use Prim.Native.Nat.{_+_, _-_, _*_, _≤_}
 use native.Mathlib.Omega.{arith}
 use lib.IntN.{pos}
 use lib.ListN.{length-take, length-drop}
-use mir.Syntax.{w64}
-use mir.Facts.{toZ-ofZ}
-use Rattle.hermite.specs.Binomial.{binomial}
 use Rattle.hermite.specs.HalfSum.{g as HalfSum·g}
+use Rattle.hermite.specs.Binomial.{binomial}
 use Rattle.hermite.specs.Polynomial.{coefficient}
 use Rattle.half_sum.proofs.Lists.{Filled, filled-zeros, filled-more, filled-lists}
 use Rattle.half_sum.proofs.Rows.{g-by-rows}

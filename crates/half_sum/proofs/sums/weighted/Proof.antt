@@ -1,17 +1,11 @@
 -- `half_sum::sums::weighted` meets its contract. After j turns sum is the sum to j.
-use mathlib.Core.Path.{_≡_, refl, sym, _∙_, ap, ap₂}
-use mathlib.Core.List.{List}
-use Prim.Native.Nat.{ℕ, _+_, _-_, _*_, _^_, _≤_, _<_}
-use native.Mathlib.Numerals.{add-one}
+use mathlib.Core.Path.{_≡_, _∙_, ap}
+use Prim.Native.Nat.{_+_, _-_, _≤_}
 use native.Mathlib.Omega.{arith}
-use lib.Dec.{lit<, lit≤}
-use lib.IntN.{ℤ, pos, _+ℤ_, _*ℤ_}
-use lib.ListN.{getD}
-use mir.Syntax.{w64, w16}
-use mir.Val.{Fits, SFits, toZ, ofZ}
+use mir.Syntax.{w64}
+use mir.Val.{toZ, ofZ}
 use mir.Facts.{toZ-ofZ}
 use Rattle.integer.specs.Sum.{sum as Sum·sum}
-use Rattle.hermite.specs.Polynomial.{coefficient}
 use Rattle.half_sum.proofs.Machine.{term, entry-fits, machine-term, term-fits, sum-fits, machine-sum}
 use Rattle.half_sum.proofs.sums.weighted.Statement.{statement}
 use Rattle.half_sum.proofs.sums.weighted.Tie as tie

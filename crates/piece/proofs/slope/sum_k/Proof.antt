@@ -1,17 +1,16 @@
 -- `piece::slope::sum_k` meets its contract: the table's row n+1 gives g_m against n+1.
 use borrow.Author.Needs.{needs}
-use mathlib.Core.Path.{_≡_, refl, sym, _∙_, ap, ap₂}
-use Prim.Native.Nat.{ℕ, _+_, _-_, _*_, _^_, _≤_}
+use mathlib.Core.Path.{_≡_, refl, sym, _∙_, ap₂}
+use Prim.Native.Nat.{_+_, _-_, _*_}
 use native.Mathlib.Omega.{arith}
 use lib.Dec.{lit<, lit≤}
-use lib.IntN.{ℤ, pos, _*ℤ_}
+use lib.IntN.{_*ℤ_}
 use lib.ListN.{length-take, length-drop}
 use mir.Syntax.{w64}
 use mir.Val.{SFits, toZ, ofZ}
 use mir.Facts.{toZ-ofZ, toZ-pos}
 use Rattle.integer.proofs.Within.{within-fits}
 use Rattle.hermite.specs.Binomial.{binomial}
-use Rattle.hermite.specs.HalfSum.{g}
 use Rattle.hermite.specs.Polynomial.{coefficient}
 use Rattle.hermite.specs.Slope.{sumK}
 use Rattle.rounding.proofs.Bounds.{sumK-within}

@@ -1,10 +1,10 @@
 -- `piece::slope::y3` meets its contract.
 use borrow.Author.Needs.{needs}
-use mathlib.Core.Path.{_≡_, sym, _∙_, ap}
-use Prim.Native.Nat.{ℕ, _+_, _-_, _*_, _^_, _≤_}
+use mathlib.Core.Path.{_≡_, _∙_, ap}
+use Prim.Native.Nat.{_-_, _^_}
 use native.Mathlib.Omega.{arith}
 use lib.Dec.{lit<, lit≤}
-use lib.IntN.{ℤ, pos, _*ℤ_}
+use lib.IntN.{pos, _*ℤ_}
 use mir.Syntax.{w64}
 use mir.Val.{SFits, toZ, ofZ}
 use mir.Facts.{toZ-ofZ}
@@ -12,7 +12,6 @@ use Rattle.integer.specs.Within.{Within}
 use Rattle.integer.proofs.Within.{within-natural, within-more, within-mul, within-fits}
 use Rattle.hermite.specs.HalfSum.{valueUnit}
 use Rattle.rounding.specs.Scaling.{scaledTimes}
-use Rattle.rounding.specs.Size.{sizeMax}
 use Rattle.rounding.specs.Trend.{scaledK}
 use Rattle.rounding.proofs.Bounds.{times-within}
 use Rattle.half_sum.proofs.Machine.{result-is}

@@ -1,10 +1,10 @@
 -- `piece::water::total` meets its contract: the table gives each end's sum, and h times their sum fits.
 use borrow.Author.Needs.{needs}
-use mathlib.Core.Path.{_≡_, refl, sym, _∙_, ap, ap₂}
-use Prim.Native.Nat.{ℕ, _+_, _-_, _*_, _^_, _≤_}
+use mathlib.Core.Path.{_≡_, refl, _∙_, ap, ap₂}
+use Prim.Native.Nat.{_+_, _-_, _*_}
 use native.Mathlib.Omega.{arith}
 use lib.Dec.{lit<, lit≤}
-use lib.IntN.{ℤ, pos, _+ℤ_, _*ℤ_}
+use lib.IntN.{pos, _+ℤ_, _*ℤ_}
 use lib.ListN.{length, length-take, length-drop}
 use mir.Syntax.{w64}
 use mir.Val.{SFits, toZ, ofZ}
@@ -13,8 +13,7 @@ use Rattle.integer.specs.Sum.{sum}
 use Rattle.integer.specs.Within.{Within}
 use Rattle.integer.proofs.Within.{within-natural, within-more, within-add, within-mul, within-fits}
 use Rattle.hermite.specs.Blend.{rightWeights}
-use Rattle.hermite.specs.Water.{waterUnit, weightedSum}
-use Rattle.hermite.specs.Water.{c as Water·c}
+use Rattle.hermite.specs.Water.{waterUnit, weightedSum, c as Water·c}
 use Rattle.rounding.specs.Piece.{Piece, piece, m, n, p, q}
 use Rattle.rounding.specs.Size.{sizeMax}
 use Rattle.rounding.specs.Water.{total}
