@@ -4,17 +4,21 @@
 Written from the document, in its letters, and not from the Rattle text: the blend is formula (1)
 multiplied out, the derivative comes by differentiating it and the total by integrating it. Every case
 that is made has its distances, its total and its Taylor coefficients checked. The rounding steps
-themselves are held against the document's known results here, and against the engine where it runs.
+themselves are held against the document's known results here, and against the engine by the stored
+files that `vectors` makes.
 
+  exact.py vectors  make the stored input and output of crates/piece_vectors again
   exact.py check    hold the entries of "Scans with known results" that concern one piece, the integral
                     weights of source document 001, and a sweep over all grades and gaps
 """
 import random
+import struct
 import sys
 from dataclasses import dataclass
 from fractions import Fraction
 from functools import cache
 from math import comb, factorial, floor
+from pathlib import Path
 
 UNIT_OF_VALUE = 65_536
 UNIT_OF_WATER = 720_720
@@ -275,8 +279,10 @@ def extreme(chance, grade, h):
     return tuple(chance.choice((-1, 0, 1)) * (SIZE_MAX // h**j) for j in range(grade + 1))
 
 
-def ordinary(chance, grade):
-    return tuple(chance.randint(-1000, 1000) for _ in range(grade + 1))
+def ordinary(chance, grade, h):
+    """Coefficients of up to 1,000, within the size rule."""
+    limits = [min(1000, SIZE_MAX // h**j) for j in range(grade + 1)]
+    return tuple(chance.randint(-limit, limit) for limit in limits)
 
 
 def hold_sweep():
@@ -287,13 +293,68 @@ def hold_sweep():
         for n in range(GRADE_MAX + 1):
             for h in range(1, GAP_MAX + 1):
                 for piece in (
-                    Piece(h, ordinary(chance, m), ordinary(chance, n)),
+                    Piece(h, ordinary(chance, m, h), ordinary(chance, n, h)),
                     Piece(h, extreme(chance, m, h), extreme(chance, n, h)),
                 ):
                     for r in (0, chance.randint(1, piece.D - 1), piece.D):
                         case(piece, r)
                         cases += 1
     return cases
+
+
+# ---- the stored cases of crates/piece_vectors
+
+
+def greatest(grade, h, sign, turn):
+    """Coefficients at the size rule's limits: with `turn` −1 their signs alternate, as those of right weights do."""
+    return tuple(sign * turn**j * (SIZE_MAX // h**j) for j in range(grade + 1))
+
+
+def pieces(chance, m, n, h):
+    """One piece for each place that is asked: at the limits, with signs that add up, that oppose or by chance, and ordinary ones."""
+    yield Piece(h, greatest(m, h, 1, 1), greatest(n, h, 1, -1))
+    yield Piece(h, greatest(m, h, -1, 1), greatest(n, h, 1, -1))
+    yield Piece(h, extreme(chance, m, h), extreme(chance, n, h))
+    yield Piece(h, greatest(m, h, -1, -1), extreme(chance, n, h))
+    yield Piece(h, ordinary(chance, m, h), ordinary(chance, n, h))
+
+
+def stored_cases():
+    """The known results, then for each pair of grades and each gap the places 0, D, 1, D−1 and one by chance, the pieces going round."""
+    chance = random.Random(2)
+    for piece, r, _, _ in KNOWN_RESULTS:
+        yield piece, r
+    turn = 0
+    for m in range(GRADE_MAX + 1):
+        for n in range(GRADE_MAX + 1):
+            for h in range(1, GAP_MAX + 1):
+                made = list(pieces(chance, m, n, h))
+                D = made[0].D
+                for i, r in enumerate((0, D, 1, D - 1, chance.randint(2, D - 2))):
+                    yield made[(i + turn) % len(made)], r
+                turn += 1
+
+
+def words_of(piece, r):
+    """A case as piece_vectors reads it: 20 words, a negative coefficient by its magnitude with 2^31 more."""
+
+    def list_of(coefficients):
+        padded = coefficients + (0,) * (GRADE_MAX + 1 - len(coefficients))
+        return [abs(c) + (1 << 31 if c < 0 else 0) for c in padded]
+
+    return [piece.h, piece.m + 1, piece.n + 1, r] + list_of(piece.left) + list_of(piece.right)
+
+
+def vectors():
+    crate = Path(__file__).resolve().parent.parent / "crates" / "piece_vectors"
+    cases, lines = bytearray(), []
+    for piece, r in stored_cases():
+        found = case(piece, r)
+        cases += struct.pack("<20I", *words_of(piece, r))
+        lines.append(f"{found['value']} {found['trend']} {found['total']}\n")
+    (crate / "stdin").write_bytes(cases)
+    (crate / "stdout").write_text("".join(lines))
+    print(f"{len(lines)} cases stored")
 
 
 def check():
@@ -304,7 +365,7 @@ def check():
     print(f"{entries} entries of \"Scans with known results\" held; {cases} further cases within their distances")
 
 
-COMMANDS = {"check": check}
+COMMANDS = {"check": check, "vectors": vectors}
 
 
 def main(words):

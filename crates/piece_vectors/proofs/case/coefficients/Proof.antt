@@ -1,0 +1,64 @@
+-- `piece_vectors::case::coefficients` meets its contract.
+use mathlib.Core.Path.{_≡_, refl, sym, _∙_}
+use Prim.Native.Nat.{ℕ, _+_, _*_, _-_, _^_, _≤_, _<_}
+use native.Mathlib.Omega.{arith}
+use lib.ListN.{length, length-set}
+use Rattle.piece_vectors.proofs.case.coefficients.Statement.{statement}
+use Rattle.piece_vectors.proofs.case.coefficients.Tie as tie
+
+abbrev Inv-loop : tie.InvT-loop
+Inv-loop bytes at c₀ j₀ c j = (j ≤ 8) × (8 ≡ length c)
+
+abbrev μ-loop : tie.MeasureT-loop
+μ-loop bytes at c₀ j₀ c j = 8 - j
+
+loop-holds : tie.Need-loop-holds Inv-loop μ-loop
+loop-holds c = (omega arith, refl)
+
+mul-word : tie.Need-mul-word Inv-loop μ-loop
+mul-word c = omega arith
+
+add-word : tie.Need-add-word Inv-loop μ-loop
+add-word c = omega arith
+
+word-requires : tie.Need-word-requires Inv-loop μ-loop
+word-requires c κs = omega arith
+
+signed-requires : tie.Need-signed-requires Inv-loop μ-loop
+signed-requires c κs = c .word .ensures
+
+mul-c : tie.Need-mul-c Inv-loop μ-loop
+mul-c c = omega arith
+
+array-set-from-c : tie.Need-array-set-from-c Inv-loop μ-loop
+array-set-from-c c = omega arith
+
+add-j : tie.Need-add-j Inv-loop μ-loop
+add-j c = omega arith
+
+loop-less : tie.Need-loop-less Inv-loop μ-loop
+loop-less c = omega arith
+
+loop-again : tie.Need-loop-again Inv-loop μ-loop
+loop-again c = (omega arith, simp length-set (c .before .before .before .loop .inv .1))
+
+returns : tie.Need-returns Inv-loop μ-loop
+returns c = c .before .loop .inv .1
+
+pub coefficients-spec : {M : Type 1} → statement M
+coefficients-spec =
+    tie.close
+    (tie.spec
+    Inv-loop
+    μ-loop
+    loop-holds
+    mul-word
+    add-word
+    word-requires
+    signed-requires
+    mul-c
+    array-set-from-c
+    add-j
+    loop-less
+    loop-again
+    returns)
