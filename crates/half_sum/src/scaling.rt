@@ -38,7 +38,8 @@ pub fn scaled(u: i64, a: u64, s: Divisor) -> i64
 {
     if u < 0 {
         // −m × a / d = −m + m × (d − a) / d
-        u + part((-u) as u64, s.d - a, s) as i64
+        let rest = s.d - a;
+        u + part((-u) as u64, rest, s) as i64
     } else {
         part(u as u64, a, s) as i64
     }

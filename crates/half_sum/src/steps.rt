@@ -32,7 +32,9 @@ pub fn half_sum(m: usize, n: usize, a: u64, s: Divisor, w: &[i64]) -> i64
     ensures { λ r. ⌜ r ≡ halfSum m n a (s .d) (coefficient (now (w .entry))) ⌝ }
 {
     let g = sums(n, w);
-    scaled_times(n + 1, descended(m, a, s, &g), s.d - a, s)
+    let u = descended(m, a, s, &g);
+    let rest = s.d - a;
+    scaled_times(n + 1, u, rest, s)
 }
 
 // The half-sum of m−1 against n on w'; half-sums of grade −1 are 0.

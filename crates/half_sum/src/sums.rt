@@ -11,6 +11,7 @@ ghost use Rattle.rounding.specs.Size.{sizeMax};
 
 // Row n, from 0 to 8: binomial(n+7, 7), binomial(n+6, 6) and so on down to binomial(n, 0).
 pub const BINOMIALS: [u32; 72] = [
+    // row 0
     1,
     1,
     1,
@@ -19,6 +20,7 @@ pub const BINOMIALS: [u32; 72] = [
     1,
     1,
     1,
+    // row 1
     8,
     7,
     6,
@@ -27,6 +29,7 @@ pub const BINOMIALS: [u32; 72] = [
     3,
     2,
     1,
+    // row 2
     36,
     28,
     21,
@@ -35,6 +38,7 @@ pub const BINOMIALS: [u32; 72] = [
     6,
     3,
     1,
+    // row 3
     120,
     84,
     56,
@@ -43,6 +47,7 @@ pub const BINOMIALS: [u32; 72] = [
     10,
     4,
     1,
+    // row 4
     330,
     210,
     126,
@@ -51,6 +56,7 @@ pub const BINOMIALS: [u32; 72] = [
     15,
     5,
     1,
+    // row 5
     792,
     462,
     252,
@@ -59,6 +65,7 @@ pub const BINOMIALS: [u32; 72] = [
     21,
     6,
     1,
+    // row 6
     1716,
     924,
     462,
@@ -67,6 +74,7 @@ pub const BINOMIALS: [u32; 72] = [
     28,
     7,
     1,
+    // row 7
     3432,
     1716,
     792,
@@ -75,6 +83,7 @@ pub const BINOMIALS: [u32; 72] = [
     36,
     8,
     1,
+    // row 8
     6435,
     3003,
     1287,

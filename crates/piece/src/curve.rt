@@ -24,7 +24,10 @@ pub fn value(h: u64, left: &[i32], right: &[i32], r: u64) -> i64
     let s = Divisor::of(256 * h);
     let p = weights(h, left);
     let q = right_weights(h, right);
-    half_sum(m, n, r, s, &p) + half_sum(n, m, s.d - r, s, &q)
+    let from_left = half_sum(m, n, r, s, &p);
+    let rest = s.d - r;
+    let from_right = half_sum(n, m, rest, s, &q);
+    from_left + from_right
 }
 
 // The trend: Y1 − Y2 + Y3, divided by h.
@@ -38,7 +41,8 @@ pub fn trend(h: u64, left: &[i32], right: &[i32], r: u64) -> i64
     let p = weights(h, left);
     let q = right_weights(h, right);
     let y1 = lower_half_sum(m, n, r, s, &p);
-    let y2 = lower_half_sum(n, m, s.d - r, s, &q);
+    let rest = s.d - r;
+    let y2 = lower_half_sum(n, m, rest, s, &q);
     let k = sum_k(n, m, &q) - sum_k(m, n, &p);
     scaled(y1 - y2 + y3(m, n, r, s, k), 1, Divisor::of(h))
 }

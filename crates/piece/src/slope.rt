@@ -30,5 +30,7 @@ pub fn y3(m: usize, n: usize, r: u64, s: Divisor, k: i64) -> i64
     requires { ⌜ (Fraction r s) × (Within (2 * (91520 * sizeMax)) k) ⌝ }
     ensures { λ y. ⌜ y ≡ scaledK m n r (s .d) k ⌝ }
 {
-    scaled_times(n, scaled_times(m, 65_536 * k, r, s), s.d - r, s)
+    let u = scaled_times(m, 65_536 * k, r, s);
+    let rest = s.d - r;
+    scaled_times(n, u, rest, s)
 }

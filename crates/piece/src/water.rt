@@ -9,6 +9,7 @@ use half_sum::weights;
 
 // The integral weights: for each pair of grades m and n, from 0 to 7, a row of c_0 to c_7, which is 0 above m.
 const INTEGRAL_WEIGHTS: [u32; 512] = [
+    // grades 0 and 0
     360360,
     0,
     0,
@@ -17,6 +18,7 @@ const INTEGRAL_WEIGHTS: [u32; 512] = [
     0,
     0,
     0,
+    // grades 0 and 1
     240240,
     0,
     0,
@@ -25,6 +27,7 @@ const INTEGRAL_WEIGHTS: [u32; 512] = [
     0,
     0,
     0,
+    // grades 0 and 2
     180180,
     0,
     0,
@@ -33,6 +36,7 @@ const INTEGRAL_WEIGHTS: [u32; 512] = [
     0,
     0,
     0,
+    // grades 0 and 3
     144144,
     0,
     0,
@@ -41,6 +45,7 @@ const INTEGRAL_WEIGHTS: [u32; 512] = [
     0,
     0,
     0,
+    // grades 0 and 4
     120120,
     0,
     0,
@@ -49,6 +54,7 @@ const INTEGRAL_WEIGHTS: [u32; 512] = [
     0,
     0,
     0,
+    // grades 0 and 5
     102960,
     0,
     0,
@@ -57,6 +63,7 @@ const INTEGRAL_WEIGHTS: [u32; 512] = [
     0,
     0,
     0,
+    // grades 0 and 6
     90090,
     0,
     0,
@@ -65,6 +72,7 @@ const INTEGRAL_WEIGHTS: [u32; 512] = [
     0,
     0,
     0,
+    // grades 0 and 7
     80080,
     0,
     0,
@@ -73,6 +81,7 @@ const INTEGRAL_WEIGHTS: [u32; 512] = [
     0,
     0,
     0,
+    // grades 1 and 0
     480480,
     120120,
     0,
@@ -81,6 +90,7 @@ const INTEGRAL_WEIGHTS: [u32; 512] = [
     0,
     0,
     0,
+    // grades 1 and 1
     360360,
     60060,
     0,
@@ -89,6 +99,7 @@ const INTEGRAL_WEIGHTS: [u32; 512] = [
     0,
     0,
     0,
+    // grades 1 and 2
     288288,
     36036,
     0,
@@ -97,6 +108,7 @@ const INTEGRAL_WEIGHTS: [u32; 512] = [
     0,
     0,
     0,
+    // grades 1 and 3
     240240,
     24024,
     0,
@@ -105,6 +117,7 @@ const INTEGRAL_WEIGHTS: [u32; 512] = [
     0,
     0,
     0,
+    // grades 1 and 4
     205920,
     17160,
     0,
@@ -113,6 +126,7 @@ const INTEGRAL_WEIGHTS: [u32; 512] = [
     0,
     0,
     0,
+    // grades 1 and 5
     180180,
     12870,
     0,
@@ -121,6 +135,7 @@ const INTEGRAL_WEIGHTS: [u32; 512] = [
     0,
     0,
     0,
+    // grades 1 and 6
     160160,
     10010,
     0,
@@ -129,6 +144,7 @@ const INTEGRAL_WEIGHTS: [u32; 512] = [
     0,
     0,
     0,
+    // grades 1 and 7
     144144,
     8008,
     0,
@@ -137,6 +153,7 @@ const INTEGRAL_WEIGHTS: [u32; 512] = [
     0,
     0,
     0,
+    // grades 2 and 0
     540540,
     180180,
     60060,
@@ -145,6 +162,7 @@ const INTEGRAL_WEIGHTS: [u32; 512] = [
     0,
     0,
     0,
+    // grades 2 and 1
     432432,
     108108,
     24024,
@@ -153,6 +171,7 @@ const INTEGRAL_WEIGHTS: [u32; 512] = [
     0,
     0,
     0,
+    // grades 2 and 2
     360360,
     72072,
     12012,
@@ -161,6 +180,7 @@ const INTEGRAL_WEIGHTS: [u32; 512] = [
     0,
     0,
     0,
+    // grades 2 and 3
     308880,
     51480,
     6864,
@@ -169,6 +189,7 @@ const INTEGRAL_WEIGHTS: [u32; 512] = [
     0,
     0,
     0,
+    // grades 2 and 4
     270270,
     38610,
     4290,
@@ -177,6 +198,7 @@ const INTEGRAL_WEIGHTS: [u32; 512] = [
     0,
     0,
     0,
+    // grades 2 and 5
     240240,
     30030,
     2860,
@@ -185,6 +207,7 @@ const INTEGRAL_WEIGHTS: [u32; 512] = [
     0,
     0,
     0,
+    // grades 2 and 6
     216216,
     24024,
     2002,
@@ -193,6 +216,7 @@ const INTEGRAL_WEIGHTS: [u32; 512] = [
     0,
     0,
     0,
+    // grades 2 and 7
     196560,
     19656,
     1456,
@@ -201,6 +225,7 @@ const INTEGRAL_WEIGHTS: [u32; 512] = [
     0,
     0,
     0,
+    // grades 3 and 0
     576576,
     216216,
     96096,
@@ -209,6 +234,7 @@ const INTEGRAL_WEIGHTS: [u32; 512] = [
     0,
     0,
     0,
+    // grades 3 and 1
     480480,
     144144,
     48048,
@@ -217,6 +243,7 @@ const INTEGRAL_WEIGHTS: [u32; 512] = [
     0,
     0,
     0,
+    // grades 3 and 2
     411840,
     102960,
     27456,
@@ -225,6 +252,7 @@ const INTEGRAL_WEIGHTS: [u32; 512] = [
     0,
     0,
     0,
+    // grades 3 and 3
     360360,
     77220,
     17160,
@@ -233,6 +261,7 @@ const INTEGRAL_WEIGHTS: [u32; 512] = [
     0,
     0,
     0,
+    // grades 3 and 4
     320320,
     60060,
     11440,
@@ -241,6 +270,7 @@ const INTEGRAL_WEIGHTS: [u32; 512] = [
     0,
     0,
     0,
+    // grades 3 and 5
     288288,
     48048,
     8008,
@@ -249,6 +279,7 @@ const INTEGRAL_WEIGHTS: [u32; 512] = [
     0,
     0,
     0,
+    // grades 3 and 6
     262080,
     39312,
     5824,
@@ -257,6 +288,7 @@ const INTEGRAL_WEIGHTS: [u32; 512] = [
     0,
     0,
     0,
+    // grades 3 and 7
     240240,
     32760,
     4368,
@@ -265,6 +297,7 @@ const INTEGRAL_WEIGHTS: [u32; 512] = [
     0,
     0,
     0,
+    // grades 4 and 0
     600600,
     240240,
     120120,
@@ -273,6 +306,7 @@ const INTEGRAL_WEIGHTS: [u32; 512] = [
     0,
     0,
     0,
+    // grades 4 and 1
     514800,
     171600,
     68640,
@@ -281,6 +315,7 @@ const INTEGRAL_WEIGHTS: [u32; 512] = [
     0,
     0,
     0,
+    // grades 4 and 2
     450450,
     128700,
     42900,
@@ -289,6 +324,7 @@ const INTEGRAL_WEIGHTS: [u32; 512] = [
     0,
     0,
     0,
+    // grades 4 and 3
     400400,
     100100,
     28600,
@@ -297,6 +333,7 @@ const INTEGRAL_WEIGHTS: [u32; 512] = [
     0,
     0,
     0,
+    // grades 4 and 4
     360360,
     80080,
     20020,
@@ -305,6 +342,7 @@ const INTEGRAL_WEIGHTS: [u32; 512] = [
     0,
     0,
     0,
+    // grades 4 and 5
     327600,
     65520,
     14560,
@@ -313,6 +351,7 @@ const INTEGRAL_WEIGHTS: [u32; 512] = [
     0,
     0,
     0,
+    // grades 4 and 6
     300300,
     54600,
     10920,
@@ -321,6 +360,7 @@ const INTEGRAL_WEIGHTS: [u32; 512] = [
     0,
     0,
     0,
+    // grades 4 and 7
     277200,
     46200,
     8400,
@@ -329,6 +369,7 @@ const INTEGRAL_WEIGHTS: [u32; 512] = [
     0,
     0,
     0,
+    // grades 5 and 0
     617760,
     257400,
     137280,
@@ -337,6 +378,7 @@ const INTEGRAL_WEIGHTS: [u32; 512] = [
     17160,
     0,
     0,
+    // grades 5 and 1
     540540,
     193050,
     85800,
@@ -345,6 +387,7 @@ const INTEGRAL_WEIGHTS: [u32; 512] = [
     4290,
     0,
     0,
+    // grades 5 and 2
     480480,
     150150,
     57200,
@@ -353,6 +396,7 @@ const INTEGRAL_WEIGHTS: [u32; 512] = [
     1430,
     0,
     0,
+    // grades 5 and 3
     432432,
     120120,
     40040,
@@ -361,6 +405,7 @@ const INTEGRAL_WEIGHTS: [u32; 512] = [
     572,
     0,
     0,
+    // grades 5 and 4
     393120,
     98280,
     29120,
@@ -369,6 +414,7 @@ const INTEGRAL_WEIGHTS: [u32; 512] = [
     260,
     0,
     0,
+    // grades 5 and 5
     360360,
     81900,
     21840,
@@ -377,6 +423,7 @@ const INTEGRAL_WEIGHTS: [u32; 512] = [
     130,
     0,
     0,
+    // grades 5 and 6
     332640,
     69300,
     16800,
@@ -385,6 +432,7 @@ const INTEGRAL_WEIGHTS: [u32; 512] = [
     70,
     0,
     0,
+    // grades 5 and 7
     308880,
     59400,
     13200,
@@ -393,6 +441,7 @@ const INTEGRAL_WEIGHTS: [u32; 512] = [
     40,
     0,
     0,
+    // grades 6 and 0
     630630,
     270270,
     150150,
@@ -401,6 +450,7 @@ const INTEGRAL_WEIGHTS: [u32; 512] = [
     30030,
     12870,
     0,
+    // grades 6 and 1
     560560,
     210210,
     100100,
@@ -409,6 +459,7 @@ const INTEGRAL_WEIGHTS: [u32; 512] = [
     10010,
     2860,
     0,
+    // grades 6 and 2
     504504,
     168168,
     70070,
@@ -417,6 +468,7 @@ const INTEGRAL_WEIGHTS: [u32; 512] = [
     4004,
     858,
     0,
+    // grades 6 and 3
     458640,
     137592,
     50960,
@@ -425,6 +477,7 @@ const INTEGRAL_WEIGHTS: [u32; 512] = [
     1820,
     312,
     0,
+    // grades 6 and 4
     420420,
     114660,
     38220,
@@ -433,6 +486,7 @@ const INTEGRAL_WEIGHTS: [u32; 512] = [
     910,
     130,
     0,
+    // grades 6 and 5
     388080,
     97020,
     29400,
@@ -441,6 +495,7 @@ const INTEGRAL_WEIGHTS: [u32; 512] = [
     490,
     60,
     0,
+    // grades 6 and 6
     360360,
     83160,
     23100,
@@ -449,6 +504,7 @@ const INTEGRAL_WEIGHTS: [u32; 512] = [
     280,
     30,
     0,
+    // grades 6 and 7
     336336,
     72072,
     18480,
@@ -457,6 +513,7 @@ const INTEGRAL_WEIGHTS: [u32; 512] = [
     168,
     16,
     0,
+    // grades 7 and 0
     640640,
     280280,
     160160,
@@ -465,6 +522,7 @@ const INTEGRAL_WEIGHTS: [u32; 512] = [
     40040,
     22880,
     10010,
+    // grades 7 and 1
     576576,
     224224,
     112112,
@@ -473,6 +531,7 @@ const INTEGRAL_WEIGHTS: [u32; 512] = [
     16016,
     6864,
     2002,
+    // grades 7 and 2
     524160,
     183456,
     81536,
@@ -481,6 +540,7 @@ const INTEGRAL_WEIGHTS: [u32; 512] = [
     7280,
     2496,
     546,
+    // grades 7 and 3
     480480,
     152880,
     61152,
@@ -489,6 +549,7 @@ const INTEGRAL_WEIGHTS: [u32; 512] = [
     3640,
     1040,
     182,
+    // grades 7 and 4
     443520,
     129360,
     47040,
@@ -497,6 +558,7 @@ const INTEGRAL_WEIGHTS: [u32; 512] = [
     1960,
     480,
     70,
+    // grades 7 and 5
     411840,
     110880,
     36960,
@@ -505,6 +567,7 @@ const INTEGRAL_WEIGHTS: [u32; 512] = [
     1120,
     240,
     30,
+    // grades 7 and 6
     384384,
     96096,
     29568,
@@ -513,6 +576,7 @@ const INTEGRAL_WEIGHTS: [u32; 512] = [
     672,
     128,
     14,
+    // grades 7 and 7
     360360,
     84084,
     24024,

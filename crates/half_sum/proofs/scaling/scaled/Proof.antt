@@ -20,17 +20,17 @@ use Rattle.half_sum.proofs.scaling.scaled.Tie as tie
 opposite-fits : (u : ℤ) → Within (2 ^ 63 - 1) u → SFits w64 (pos 0 -ℤ u)
 opposite-fits u w = within-fits w64 (pos 0 -ℤ u) (lit< tt) (within-add (pos 0) (negℤ u) (within-natural 0) (within-neg u w))
 
+sub-rest : tie.Need-sub-rest
+sub-rest c = search needs
+
 sub-part : tie.Need-sub-part
-sub-part c = rw (toZ-ofZ (c .before .fits .u)) (opposite-fits (c .before .args .u) (c .before .pre .1))
+sub-part c = rw (toZ-ofZ (c .before .before .fits .u)) (opposite-fits (c .before .before .args .u) (c .before .before .pre .1))
 
 cast-part : tie.Need-cast-part
 cast-part c =
-    let b = c .before in
-    let m = negative-magnitude (b .args .u) (rw (toZ-ofZ (b .fits .u)) at (c .if1 .taken)) (b .pre .1) in
+    let b = c .before .before in
+    let m = negative-magnitude (b .args .u) (rw (toZ-ofZ (b .fits .u)) at (c .before .if1 .taken)) (b .pre .1) in
     rw (toZ-ofZ (b .fits .u), toZ-ofZ (opposite-fits (b .args .u) (b .pre .1))) (m .0, fits-le (m .1) (fits-lit tt))
-
-sub-part-2 : tie.Need-sub-part-2
-sub-part-2 c = search needs
 
 part-requires : tie.Need-part-requires
 part-requires c κs = search needs
@@ -95,9 +95,9 @@ pub scaled-spec : {M : Type 1} → statement M
 scaled-spec =
     tie.close
     (tie.spec
+    sub-rest
     sub-part
     cast-part
-    sub-part-2
     part-requires
     cast-result
     add-result

@@ -21,9 +21,6 @@ use Rattle.half_sum.proofs.steps.half_sum.Tie as tie
 sums-requires : tie.Need-sums-requires
 sums-requires c κs = search needs
 
-add-scaled-times : tie.Need-add-scaled-times
-add-scaled-times c = search needs
-
 slice-aggregate-descended : tie.Need-slice-aggregate-descended
 slice-aggregate-descended c = search needs
 
@@ -54,8 +51,11 @@ module _ (c : tie.After-descended) where
       (descended-within (6435 * (7 * sizeMax)) _ (b .args .a) (b .args .s .d) (b .args .m) 0 (b .pre .2 .divides .atLeast) (b .pre .2 .proper)
       (λ j h. g-within (7 * sizeMax) (b .args .n) j (coefficient (b .args .w .now)) (b .pre .1) (omega arith) (λ i k. b .pre .3 .small i (omega arith)))))
 
-sub-scaled-times : tie.Need-sub-scaled-times
-sub-scaled-times c = search needs
+sub-rest : tie.Need-sub-rest
+sub-rest c = search needs
+
+add-scaled-times : tie.Need-add-scaled-times
+add-scaled-times c = search needs
 
 scaled-times-requires : tie.Need-scaled-times-requires
 scaled-times-requires c κs =
@@ -74,9 +74,9 @@ half-sum-spec =
     tie.close
     (tie.spec
     sums-requires
-    add-scaled-times
     slice-aggregate-descended
     descended-requires
-    sub-scaled-times
+    sub-rest
+    add-scaled-times
     scaled-times-requires
     returns)

@@ -57,8 +57,8 @@ lower-half-sum-requires c κs =
       sized-weights (b .args .h) (b .args .left .now) (b .pre .0 .leftSize) (c .before .before .weights .ensures),
     )
 
-sub-lower-half-sum : tie.Need-sub-lower-half-sum
-sub-lower-half-sum c = search needs
+sub-rest : tie.Need-sub-rest
+sub-rest c = search needs
 
 slice-aggregate-lower-half-sum-2 : tie.Need-slice-aggregate-lower-half-sum-2
 slice-aggregate-lower-half-sum-2 c = search needs
@@ -225,7 +225,7 @@ trend-spec =
     right-weights-requires
     slice-aggregate-lower-half-sum
     lower-half-sum-requires
-    sub-lower-half-sum
+    sub-rest
     slice-aggregate-lower-half-sum-2
     lower-half-sum-requires-2
     slice-aggregate-sum-k

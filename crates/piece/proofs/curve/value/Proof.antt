@@ -53,8 +53,8 @@ half-sum-requires c κs =
       more-weights (lit≤ tt) (sized-weights (b .args .h) (b .args .left .now) (b .pre .0 .leftSize) (c .before .before .weights .ensures)),
     )
 
-sub-half-sum : tie.Need-sub-half-sum
-sub-half-sum c = search needs
+sub-rest : tie.Need-sub-rest
+sub-rest c = search needs
 
 slice-aggregate-half-sum-2 : tie.Need-slice-aggregate-half-sum-2
 slice-aggregate-half-sum-2 c = search needs
@@ -126,7 +126,7 @@ value-spec =
     right-weights-requires
     slice-aggregate-half-sum
     half-sum-requires
-    sub-half-sum
+    sub-rest
     slice-aggregate-half-sum-2
     half-sum-requires-2
     add-result

@@ -43,8 +43,8 @@ mul-scaled-times c = rw (unit-is c) (unit-fits c)
 scaled-times-requires : tie.Need-scaled-times-requires
 scaled-times-requires c κs = (c .pre .0, rw (unit-is c, toZ-ofZ (unit-fits c)) (unit-within c))
 
-sub-scaled-times : tie.Need-sub-scaled-times
-sub-scaled-times c = search needs
+sub-rest : tie.Need-sub-rest
+sub-rest c = search needs
 
 scaled-times-requires-2 : tie.Need-scaled-times-requires-2
 scaled-times-requires-2 c κs =
@@ -66,6 +66,6 @@ y3-spec =
     (tie.spec
     mul-scaled-times
     scaled-times-requires
-    sub-scaled-times
+    sub-rest
     scaled-times-requires-2
     returns)
