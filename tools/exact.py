@@ -188,12 +188,24 @@ def hold_ends(piece):
         hold(sum(comb(i, j) * x for i, x in enumerate(a)) == c * piece.h**j, "right Taylor coefficient", j, piece)
 
 
+@cache
+def integral_weights(m, n):
+    """c_0 to c_m of Water, by the recurrence."""
+    c = [Fraction(UNIT_OF_WATER * (m + 1), m + n + 2)]
+    for j in range(1, m + 1):
+        c.append(c[-1] * Fraction(j * (m - j + 1), (j + 1) * (m + n + 2 - j)))
+    return c
+
+
 def hold_total(piece):
-    """The total is h × the sum of a_i × 720,720/(i+1), each division without rest."""
+    """The total is h × the sum of a_i × 720,720/(i+1), each division without rest, and h × the weights by the integral weights."""
     for i in range(len(piece.blend())):
         hold(UNIT_OF_WATER % (i + 1) == 0, i + 1, "does not divide", UNIT_OF_WATER)
     parts = sum(a * (UNIT_OF_WATER // (i + 1)) for i, a in enumerate(piece.blend()))
     hold(total(piece) == piece.h * parts, "total of", piece)
+    left = sum(c * p for c, p in zip(integral_weights(piece.m, piece.n), piece.left_weights()))
+    right = sum(c * q for c, q in zip(integral_weights(piece.n, piece.m), piece.right_weights()))
+    hold(total(piece) == piece.h * (left + right), "integral weights of", piece)
 
 
 def value_error(piece, r, v):
@@ -254,10 +266,8 @@ def hold_integral_weights():
     """Formulas (11) and (12) of 001 give the integral at every order; (9), which prints (j+1)! for (j+1), does not from order 2 on."""
     for m in range(GRADE_MAX + 1):
         for n in range(GRADE_MAX + 1):
-            c = Fraction(m + 1, m + n + 2)
-            for j in range(m + 1):
-                if j:
-                    c *= Fraction(j * (m - j + 1), (j + 1) * (m + n + 2 - j))
+            for j, weight in enumerate(integral_weights(m, n)):
+                c = weight / UNIT_OF_WATER
                 left = integral(Piece(1, only(j, m), (0,) * (n + 1)).blend(), 1)
                 right = integral(Piece(1, (0,) * (n + 1), only(j, m)).blend(), 1)
                 hold(left == c, "formula (11) at", m, n, j)
@@ -310,12 +320,12 @@ def greatest(grade, h, sign, turn):
     return tuple(sign * turn**j * (SIZE_MAX // h**j) for j in range(grade + 1))
 
 
-def pieces(chance, m, n, h):
-    """One piece for each place that is asked: at the limits, with signs that add up, that oppose or by chance, and ordinary ones."""
-    yield Piece(h, greatest(m, h, 1, 1), greatest(n, h, 1, -1))
-    yield Piece(h, greatest(m, h, -1, 1), greatest(n, h, 1, -1))
+def pieces(chance, m, n, h, sign):
+    """One piece for each place that is asked: at the limits, with weights that add up, that oppose or by chance, and ordinary ones."""
+    yield Piece(h, greatest(m, h, sign, 1), greatest(n, h, sign, -1))
+    yield Piece(h, greatest(m, h, -sign, 1), greatest(n, h, sign, -1))
     yield Piece(h, extreme(chance, m, h), extreme(chance, n, h))
-    yield Piece(h, greatest(m, h, -1, -1), extreme(chance, n, h))
+    yield Piece(h, greatest(m, h, -sign, -1), extreme(chance, n, h))
     yield Piece(h, ordinary(chance, m, h), ordinary(chance, n, h))
 
 
@@ -328,7 +338,7 @@ def stored_cases():
     for m in range(GRADE_MAX + 1):
         for n in range(GRADE_MAX + 1):
             for h in range(1, GAP_MAX + 1):
-                made = list(pieces(chance, m, n, h))
+                made = list(pieces(chance, m, n, h, chance.choice((-1, 1))))
                 D = made[0].D
                 for i, r in enumerate((0, D, 1, D - 1, chance.randint(2, D - 2))):
                     yield made[(i + turn) % len(made)], r
@@ -339,8 +349,8 @@ def words_of(piece, r):
     """A case as piece_vectors reads it: 20 words, a negative coefficient by its magnitude with 2^31 more."""
 
     def list_of(coefficients):
-        padded = coefficients + (0,) * (GRADE_MAX + 1 - len(coefficients))
-        return [abs(c) + (1 << 31 if c < 0 else 0) for c in padded]
+        unused = (-123_456_789,) * (GRADE_MAX + 1 - len(coefficients))
+        return [abs(c) + (1 << 31 if c < 0 else 0) for c in coefficients + unused]
 
     return [piece.h, piece.m + 1, piece.n + 1, r] + list_of(piece.left) + list_of(piece.right)
 

@@ -9,12 +9,9 @@ use lib.ListN.{length, set, length-set, getD-replicate, replicate, List·getD-eq
 use lib.Seq.{getD-set-same, getD-set-other}
 use Rattle.integer.specs.Within.{Within}
 use Rattle.integer.proofs.Within.{within-natural, within-more}
-use Rattle.hermite.specs.Blend.{rightWeights}
 use Rattle.hermite.specs.Polynomial.{coefficient}
 use Rattle.hermite.specs.Slope.{primed}
-use Rattle.rounding.specs.Piece.{weight}
-use Rattle.rounding.specs.Size.{Sized, sizeMax}
-use Rattle.rounding.proofs.Bounds.{primed-within, sized-within, right-sized}
+use Rattle.rounding.proofs.Bounds.{primed-within}
 use Rattle.half_sum.specs.Lists.{Lists, Weights}
 
 -- w holds f below k, and from k on still what it held, v
@@ -23,14 +20,11 @@ pub record Filled (w : List ℤ) (f v : ℕ → ℤ) (k : ℕ) : Type 0 where
   pub done : (j : ℕ) → j < k → coefficient w j ≡ f j
   pub left : (j : ℕ) → k ≤ j → j ≤ 7 → coefficient w j ≡ v j
 
-none : {j : ℕ} → j < 0 → ⊥
-none h = omega arith
-
 pub filled-none : (w : List ℤ) (f : ℕ → ℤ) → 8 ≡ length w → Filled w f (coefficient w) 0
-filled-none w f e = record { count = e; done = λ j h. absurd (none h); left = λ j h b. refl }
+filled-none w f e = record { count = e; done = λ j h. absurd (omega arith); left = λ j h b. refl }
 
 pub filled-zeros : (f : ℕ → ℤ) → Filled (replicate 8 (pos 0)) f (λ j. pos 0) 0
-filled-zeros f = record { count = refl; done = λ j h. absurd (none h); left = λ j h b. getD-replicate 8 j (pos 0) (pos 0) (omega arith) }
+filled-zeros f = record { count = refl; done = λ j h. absurd (omega arith); left = λ j h b. getD-replicate 8 j (pos 0) (pos 0) (omega arith) }
 
 pub filled-more : {w : List ℤ} {f v : ℕ → ℤ} {k : ℕ} (x : ℤ) → Filled w f v k → k ≤ 7 → x ≡ f k → Filled (set w k x) f v (k + 1)
 filled-more {w} {f} {v} {k} x filled h e = record {
@@ -61,12 +55,9 @@ primed-weights {B} {w} {v} weights lists = record { count = lists .count; small 
     go j (yes h) = primed-within (coefficient w) j (omega arith) (weights .small (j + 1) (omega arith))
     go j (no h) = rw (List·getD-eq-default w (pos 0) {n = j + 1} (omega (arith, weights .count)), *ℤ-zero (pos (j + 1))) (within-more (omega arith) (within-natural 0))
 
--- arrays of a knot's weights, by the size rule
-pub sized-weights : (h : ℕ) (C : List ℤ) {w : List ℤ} → Sized h C → Lists w (weight h C) → Weights sizeMax w
-sized-weights h C sized lists = record { count = lists .count; small = λ j b. rw (lists .entry j b) (sized-within h C j sized) }
-
-pub right-weights : (h : ℕ) (C : List ℤ) {w : List ℤ} → Sized h C → Lists w (rightWeights (weight h C)) → Weights sizeMax w
-right-weights h C sized lists = record { count = lists .count; small = λ j b. rw (lists .entry j b) (right-sized h C j sized) }
+-- an array that holds numbers of one bound
+pub listed-weights : {B : ℕ} {w : List ℤ} {f : ℕ → ℤ} → Lists w f → ((j : ℕ) → Within B (f j)) → Weights B w
+listed-weights lists small = record { count = lists .count; small = λ j b. rw (lists .entry j b) (small j) }
 
 pub more-weights : {A B : ℕ} {w : List ℤ} → A ≤ B → Weights A w → Weights B w
 more-weights h weights = record { count = weights .count; small = λ j b. within-more h (weights .small j b) }

@@ -2,7 +2,7 @@
 use mathlib.Core.Path.{_≡_, refl}
 use mathlib.Core.List.{List}
 use Prim.Native.Nat.{ℕ, zero, suc, _+_, _*_, _^_, _≤_, _<_}
-use native.Mathlib.Nat.{mul-le-mul-right, lt-of-le-of-lt}
+use native.Mathlib.Nat.{le-trans, lt-of-le-of-lt, mul-le-mul-right}
 use native.Mathlib.Numerals.{add-one}
 use native.Mathlib.Omega.{arith}
 use lib.Dec.{lit<}
@@ -14,7 +14,7 @@ use mir.Val.{SFits, toZ, ofZ}
 use mir.Facts.{toZ-ofZ, toZ-pos}
 use Rattle.integer.specs.Sum.{sum}
 use Rattle.integer.specs.Within.{Within}
-use Rattle.integer.proofs.Within.{within-natural, within-more, within-mul, within-add, within-fits}
+use Rattle.integer.proofs.Within.{within-natural, within-mul, within-fits, within-sum, shares-most}
 use Rattle.hermite.specs.Polynomial.{coefficient}
 use Rattle.hermite.specs.Water.{waterUnit}
 use Rattle.half_sum.specs.Lists.{Entries, Weights}
@@ -27,12 +27,6 @@ result-is z h = toZ-ofZ (record { sfits = h })
 abbrev pub term : List ℕ → List ℤ → ℕ → ℤ
 term c w j = pos (getD c j 0) *ℤ coefficient w j
 
--- a sum of terms of one bound
-sum-within : {B : ℕ} (m : ℕ) (f : ℕ → ℤ) → ((j : ℕ) → j ≤ m → Within B (f j)) → Within ((m + 1) * B) (sum m f)
-unfolding sum
-sum-within {B} zero f h = within-more (omega arith) (h zero (omega arith))
-sum-within {B} (suc m) f h = within-more (omega arith) (within-add (sum m f) (f (suc m)) (sum-within m f (λ j k. h j (omega arith))) (h (suc m) (omega arith)))
-
 module _ (c : List ℕ) (w : List ℤ) (entries : Entries c) (weights : Weights (7 * sizeMax) w) where
   pub entry-fits : (j : ℕ) → SFits w64 (pos (getD c j 0))
   entry-fits j = record { sfits = omega (arith, entries .small j) }
@@ -40,16 +34,18 @@ module _ (c : List ℕ) (w : List ℤ) (entries : Entries c) (weights : Weights 
   pub machine-term : (j : ℕ) → j ≤ 7 → toZ w64 (getD c j 0) *ℤ toZ w64 (ofZ w64 (coefficient w j)) ≡ term c w j
   machine-term j h = rw (toZ-ofZ (within-fits w64 (coefficient w j) (lit< tt) (weights .small j h)), toZ-pos w64 {n = getD c j 0} (omega (arith, entries .small j))) refl
 
-  term-within : (j : ℕ) → j ≤ 7 → Within (waterUnit * (7 * sizeMax)) (term c w j)
-  term-within j h = within-mul (pos (getD c j 0)) (coefficient w j) (within-more (entries .small j) (within-natural (getD c j 0))) (weights .small j h)
+  term-within : (j : ℕ) → j ≤ 7 → Within (getD c j 0 * (7 * sizeMax)) (term c w j)
+  term-within j h = within-mul (pos (getD c j 0)) (coefficient w j) (within-natural (getD c j 0)) (weights .small j h)
 
   pub term-fits : (j : ℕ) → j ≤ 7 → SFits w64 (term c w j)
-  term-fits j h = within-fits w64 (term c w j) (lit< tt) (term-within j h)
+  term-fits j h = within-fits w64 (term c w j) (lt-of-le-of-lt (mul-le-mul-right (7 * sizeMax) (entries .small j)) (lit< tt)) (term-within j h)
 
   pub sum-fits : (m : ℕ) → m ≤ 7 → SFits w64 (sum m (term c w))
   sum-fits m h =
       let terms : m + 1 ≤ 8 = omega arith in
-      within-fits w64 (sum m (term c w)) (lt-of-le-of-lt (mul-le-mul-right (waterUnit * (7 * sizeMax)) terms) (lit< tt)) (sum-within m (term c w) (λ j k. term-within j (omega arith)))
+      within-fits w64 (sum m (term c w)) (lit< tt)
+      (within-sum (7 * sizeMax) (8 * waterUnit) m (λ j. getD c j 0) (term c w)
+      (le-trans (shares-most waterUnit m (λ j. getD c j 0) (λ j k. entries .small j)) (mul-le-mul-right waterUnit terms)) (λ j k. term-within j (omega arith)))
 
   -- the sum with one term more
   pub machine-sum : (x : ℤ) (j : ℕ) → j + 1 ≤ 7 → x ≡ sum j (term c w) →

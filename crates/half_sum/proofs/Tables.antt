@@ -9,19 +9,12 @@ use native.Mathlib.Omega.{arith}
 use lib.Dec.{T, eqb, eqb→eq, leb, leb→le}
 use lib.ListN.{getD, take, drop, length, length-take, List·getD-eq-default}
 use lib.Seq.{getD-take, getD-drop}
+use Rattle.integer.proofs.Claim.{first, second}
 use Rattle.hermite.specs.Water.{waterUnit}
 use Rattle.half_sum.specs.Lists.{Entries}
 
 pub part-entry : (t : List ℕ) (k from j : ℕ) → j < k → getD (take k (drop from t)) j 0 ≡ getD t (from + j) 0
 part-entry t k from j h = rw (getD-take, getD-drop)
-
-first : (a b : Bool) → T (a && b) → T a
-first true b t = tt
-first false b t = t
-
-second : (a b : Bool) → T (a && b) → T b
-second true b t = t
-second false b t = absurd t
 
 -- the entries of t are f_i, f_(i+1) and so on, by a test of the whole table, one entry after the other
 abbrev pub entries-are : (ℕ → ℕ) → ℕ → List ℕ → Bool

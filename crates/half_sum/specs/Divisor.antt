@@ -7,7 +7,7 @@ use Rattle.half_sum.specs.declared.scaling.Divisor.{Divisor}
 pub record Divides (s : Divisor) : Type 0 where
   pub atLeast : 0 < s .d
   pub atMost : s .d ≤ 4096
-  pub reciprocal : s .inverse ≡ 2 ^ 36 / s .d + 1
+  pub reciprocal : s .reciprocal ≡ 2 ^ 36 / s .d + 1
 
 -- a fraction a/d from 0 to 1
 pub record Fraction (a : ℕ) (s : Divisor) : Type 0 where

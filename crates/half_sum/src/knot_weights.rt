@@ -24,7 +24,7 @@ pub fn weights(h: u64, c: &[i32]) -> [i64; 8]
     w
 }
 
-// (−1)^j × q_j.
+// Every second weight turned: (−1)^j × q_j.
 fn alternated(q: [i64; 8]) -> [i64; 8]
     requires { ⌜ Weights sizeMax q ⌝ }
     ensures { λ w. ⌜ Lists w (rightWeights (coefficient q)) ⌝ }
@@ -40,7 +40,7 @@ fn alternated(q: [i64; 8]) -> [i64; 8]
     w
 }
 
-// Right weights: (−1)^j × q_j of the right knot.
+// Right weights, of a right knot.
 pub fn right_weights(h: u64, c: &[i32]) -> [i64; 8]
     requires { ⌜ (h ≤ 16) × (length (now c) ≤ 8) × (Sized h (now c)) ⌝ }
     ensures { λ w. ⌜ Lists w (rightWeights (weight h (now (c .entry)))) ⌝ }

@@ -9,6 +9,7 @@ pub use knot_weights::weights;
 pub use scaling::Divisor;
 pub use scaling::scaled;
 pub use scaling::scaled_times;
+pub use steps::VALUE_UNIT;
 pub use steps::half_sum;
 pub use steps::lower_half_sum;
 pub use sums::BINOMIALS;

@@ -1,4 +1,4 @@
-// Half-sums of grade m against n, with fraction a/d.
+// Document 01, "Half-sum of grade m against n": steps 2 and 3, with fraction a/d.
 ghost use mathlib.Core.Path.{_≡_};
 ghost use Prim.Native.Nat.{_*_, _≤_};
 ghost use Rattle.hermite.specs.Polynomial.{coefficient};
@@ -12,39 +12,42 @@ use super::scaling::scaled;
 use super::scaling::scaled_times;
 use super::sums::sums;
 
+// The parts of a count that values are in.
+pub const VALUE_UNIT: i64 = 65_536;
+
 // Step 2: u from m down to 0, over the sums g_i.
-fn descended(m: usize, a: u64, s: Divisor, g: &[i64]) -> i64
-    requires { ⌜ (m ≤ 7) × (Fraction a s) × (Weights (6435 * (7 * sizeMax)) (now g)) ⌝ }
-    ensures { λ r. ⌜ r ≡ HalfSum·descended (coefficient (now (g .entry))) a (s .d) m 0 ⌝ }
+fn descended(m: usize, a: u64, divisor: Divisor, g: &[i64]) -> i64
+    requires { ⌜ (m ≤ 7) × (Fraction a divisor) × (Weights (6435 * (7 * sizeMax)) (now g)) ⌝ }
+    ensures { λ r. ⌜ r ≡ HalfSum·descended (coefficient (now (g .entry))) a (divisor .d) m 0 ⌝ }
 {
     let mut i = m;
-    let mut u = 65_536 * g[i];
+    let mut u = VALUE_UNIT * g[i];
     while 0 < i {
         i -= 1;
-        u = scaled(u, a, s) + 65_536 * g[i];
+        u = scaled(u, a, divisor) + VALUE_UNIT * g[i];
     }
     u
 }
 
-// The three steps.
-pub fn half_sum(m: usize, n: usize, a: u64, s: Divisor, w: &[i64]) -> i64
-    requires { ⌜ (m ≤ 7) × (n ≤ 7) × (Fraction a s) × (Weights (7 * sizeMax) (now w)) ⌝ }
-    ensures { λ r. ⌜ r ≡ halfSum m n a (s .d) (coefficient (now (w .entry))) ⌝ }
+// The half-sum: the three steps, of which the last scales by (d−a)/d, n+1 times.
+pub fn half_sum(m: usize, n: usize, a: u64, divisor: Divisor, w: &[i64]) -> i64
+    requires { ⌜ (m ≤ 7) × (n ≤ 7) × (Fraction a divisor) × (Weights (7 * sizeMax) (now w)) ⌝ }
+    ensures { λ r. ⌜ r ≡ halfSum m n a (divisor .d) (coefficient (now (w .entry))) ⌝ }
 {
     let g = sums(n, w);
-    let u = descended(m, a, s, &g);
-    let rest = s.d - a;
-    scaled_times(n + 1, u, rest, s)
+    let u = descended(m, a, divisor, &g);
+    let complement = divisor.d - a;
+    scaled_times(n + 1, u, complement, divisor)
 }
 
 // The half-sum of m−1 against n on w'; half-sums of grade −1 are 0.
-pub fn lower_half_sum(m: usize, n: usize, a: u64, s: Divisor, w: &[i64]) -> i64
-    requires { ⌜ (m ≤ 7) × (n ≤ 7) × (Fraction a s) × (Weights sizeMax (now w)) ⌝ }
-    ensures { λ r. ⌜ r ≡ lowerHalfSum m n a (s .d) (coefficient (now (w .entry))) ⌝ }
+pub fn lower_half_sum(m: usize, n: usize, a: u64, divisor: Divisor, w: &[i64]) -> i64
+    requires { ⌜ (m ≤ 7) × (n ≤ 7) × (Fraction a divisor) × (Weights sizeMax (now w)) ⌝ }
+    ensures { λ r. ⌜ r ≡ lowerHalfSum m n a (divisor .d) (coefficient (now (w .entry))) ⌝ }
 {
     if m == 0 {
         return 0;
     }
     let v = primed(w);
-    half_sum(m - 1, n, a, s, &v)
+    half_sum(m - 1, n, a, divisor, &v)
 }

@@ -1,6 +1,6 @@
-// Step 1 of the half-sum, the sums g_i, by a table of binomials.
+// Document 01, "Half-sum of grade m against n", step 1: the sums g_i, by a table of binomials.
 ghost use mathlib.Core.Path.{_≡_};
-ghost use Prim.Native.Nat.{ℕ, _*_, _≤_, _<_};
+ghost use Prim.Native.Nat.{_*_, _≤_, _<_};
 ghost use lib.IntN.{pos, _*ℤ_};
 ghost use lib.ListN.{getD, length};
 ghost use Rattle.integer.specs.Sum.{sum as Sum·sum};

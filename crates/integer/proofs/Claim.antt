@@ -45,11 +45,11 @@ equal→eq (pos a) (negsuc b) t = absurd t
 equal→eq (negsuc a) (pos b) t = absurd t
 equal→eq (negsuc a) (negsuc b) t = ap negsuc (eqb→eq a b t)
 
-first : (a b : Bool) → T (a && b) → T a
+pub first : (a b : Bool) → T (a && b) → T a
 first true b t = tt
 first false b t = t
 
-second : (a b : Bool) → T (a && b) → T b
+pub second : (a b : Bool) → T (a && b) → T b
 second true b t = t
 second false b t = absurd t
 

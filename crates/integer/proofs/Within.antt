@@ -2,7 +2,7 @@
 -- `polynomial-fits`, at the end, shows their use.
 use mathlib.Core.Path.{_≡_, sym, _∙_, ap₂}
 use Prim.Native.Nat.{ℕ, zero, suc, _+_, _*_, _^_, _≤_, _<_, min}
-use native.Mathlib.Nat.{mul-le-mul}
+use native.Mathlib.Nat.{mul-le-mul, mul-le-mul-right}
 use native.Mathlib.Omega.{arith}
 use lib.Dec.{lit<, lit≤}
 use lib.IntN.{ℤ, pos, negsuc, negℤ, _+ℤ_, _*ℤ_}
@@ -60,10 +60,18 @@ unfoldable pub shares : ℕ → (ℕ → ℕ) → ℕ
 shares zero b = b zero
 shares (suc m) b = shares m b + b (suc m)
 
-pub within-sum : (B m : ℕ) (b : ℕ → ℕ) (f : ℕ → ℤ) → ((j : ℕ) → j ≤ m → Within (b j * B) (f j)) → Within (shares m b * B) (sum m f)
+pub within-sum : (B t m : ℕ) (b : ℕ → ℕ) (f : ℕ → ℤ) → shares m b ≤ t → ((j : ℕ) → j ≤ m → Within (b j * B) (f j)) → Within (t * B) (sum m f)
 unfolding shares sum
-within-sum B zero b f h = h zero (omega arith)
-within-sum B (suc m) b f h = within-more (omega arith) (within-add (sum m f) (f (suc m)) (within-sum B m b f (λ j k. h j (omega arith))) (h (suc m) (omega arith)))
+within-sum B t m b f most = λ h. within-more (mul-le-mul-right B most) (shared m h)
+  where
+    shared : (m : ℕ) → ((j : ℕ) → j ≤ m → Within (b j * B) (f j)) → Within (shares m b * B) (sum m f)
+    shared zero h = h zero (omega arith)
+    shared (suc m) h = within-more (omega arith) (within-add (sum m f) (f (suc m)) (shared m (λ j k. h j (omega arith))) (h (suc m) (omega arith)))
+
+pub shares-most : (e m : ℕ) (b : ℕ → ℕ) → ((j : ℕ) → j ≤ m → b j ≤ e) → shares m b ≤ (m + 1) * e
+unfolding shares
+shares-most e zero b h = omega (arith, h zero (omega arith))
+shares-most e (suc m) b h = omega (arith, shares-most e m b (λ j k. h j (omega arith)), h (suc m) (omega arith))
 
 -- their use: x y − z, where z is bounded more closely
 polynomial-fits : (x y z : ℤ) → Within (2 ^ 30) x → Within (2 ^ 30) y → Within 7 z → SFits w64 (x *ℤ y +ℤ negℤ z)

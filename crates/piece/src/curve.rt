@@ -5,14 +5,17 @@ ghost use Rattle.rounding.specs.Piece.{piece};
 ghost use Rattle.rounding.specs.Size.{Admitted};
 ghost use Rattle.rounding.specs.Trend.{trend as Trend·trend};
 ghost use Rattle.rounding.specs.Value.{value as Value·value};
+use super::slope::scaled_k;
 use super::slope::sum_k;
-use super::slope::y3;
 use half_sum::Divisor;
 use half_sum::half_sum;
 use half_sum::lower_half_sum;
 use half_sum::right_weights;
 use half_sum::scaled;
 use half_sum::weights;
+
+// The parts of a step that positions are in.
+const POSITION_UNIT: u64 = 256;
 
 // The value: a half-sum from each end.
 pub fn value(h: u64, left: &[i32], right: &[i32], r: u64) -> i64
@@ -21,12 +24,12 @@ pub fn value(h: u64, left: &[i32], right: &[i32], r: u64) -> i64
 {
     let m = left.len() - 1;
     let n = right.len() - 1;
-    let s = Divisor::of(256 * h);
+    let divisor = Divisor::of(POSITION_UNIT * h);
     let p = weights(h, left);
-    let q = right_weights(h, right);
-    let from_left = half_sum(m, n, r, s, &p);
-    let rest = s.d - r;
-    let from_right = half_sum(n, m, rest, s, &q);
+    let w = right_weights(h, right);
+    let from_left = half_sum(m, n, r, divisor, &p);
+    let complement = divisor.d - r;
+    let from_right = half_sum(n, m, complement, divisor, &w);
     from_left + from_right
 }
 
@@ -37,12 +40,12 @@ pub fn trend(h: u64, left: &[i32], right: &[i32], r: u64) -> i64
 {
     let m = left.len() - 1;
     let n = right.len() - 1;
-    let s = Divisor::of(256 * h);
+    let divisor = Divisor::of(POSITION_UNIT * h);
     let p = weights(h, left);
-    let q = right_weights(h, right);
-    let y1 = lower_half_sum(m, n, r, s, &p);
-    let rest = s.d - r;
-    let y2 = lower_half_sum(n, m, rest, s, &q);
-    let k = sum_k(n, m, &q) - sum_k(m, n, &p);
-    scaled(y1 - y2 + y3(m, n, r, s, k), 1, Divisor::of(h))
+    let w = right_weights(h, right);
+    let y1 = lower_half_sum(m, n, r, divisor, &p);
+    let complement = divisor.d - r;
+    let y2 = lower_half_sum(n, m, complement, divisor, &w);
+    let k = sum_k(n, m, &w) - sum_k(m, n, &p);
+    scaled(y1 - y2 + scaled_k(m, n, r, divisor, k), 1, Divisor::of(h))
 }

@@ -10,6 +10,7 @@ ghost use Rattle.rounding.specs.Size.{sizeMax};
 ghost use Rattle.rounding.specs.Trend.{scaledK};
 use half_sum::BINOMIALS;
 use half_sum::Divisor;
+use half_sum::VALUE_UNIT;
 use half_sum::scaled_times;
 use half_sum::weighted;
 
@@ -26,11 +27,11 @@ pub fn sum_k(m: usize, n: usize, w: &[i64]) -> i64
 }
 
 // Y3: 65,536 × K, scaled by r/d m times, then by (d−r)/d n times.
-pub fn y3(m: usize, n: usize, r: u64, s: Divisor, k: i64) -> i64
-    requires { ⌜ (Fraction r s) × (Within (2 * (91520 * sizeMax)) k) ⌝ }
-    ensures { λ y. ⌜ y ≡ scaledK m n r (s .d) k ⌝ }
+pub fn scaled_k(m: usize, n: usize, r: u64, divisor: Divisor, k: i64) -> i64
+    requires { ⌜ (Fraction r divisor) × (Within (2 * (91520 * sizeMax)) k) ⌝ }
+    ensures { λ y. ⌜ y ≡ scaledK m n r (divisor .d) k ⌝ }
 {
-    let u = scaled_times(m, 65_536 * k, r, s);
-    let rest = s.d - r;
-    scaled_times(n, u, rest, s)
+    let u = scaled_times(m, VALUE_UNIT * k, r, divisor);
+    let complement = divisor.d - r;
+    scaled_times(n, u, complement, divisor)
 }

@@ -595,9 +595,9 @@ pub fn total(h: u64, left: &[i32], right: &[i32]) -> i64
     let m = left.len() - 1;
     let n = right.len() - 1;
     let p = weights(h, left);
-    let q = right_weights(h, right);
+    let w = right_weights(h, right);
     let table: &[u32] = &INTEGRAL_WEIGHTS;
     let row = 64 * m + 8 * n;
     let exchanged = 64 * n + 8 * m;
-    h as i64 * (weighted(m, &table[row..], &p) + weighted(n, &table[exchanged..], &q))
+    h as i64 * (weighted(m, &table[row..], &p) + weighted(n, &table[exchanged..], &w))
 }

@@ -1,4 +1,5 @@
-// Whether a case is a piece that a reel can have, which the functions of `piece` ask.
+// Whether a case is a piece that a reel can have, which the functions of `piece` require. Promised is that a yes is right; that a no is,
+// the stored output shows: it has no `refused`.
 ghost use mathlib.Core.Bool.{true};
 ghost use mathlib.Core.Path.{_≡_};
 ghost use Prim.Native.Nat.{_*_, _≤_};
@@ -6,6 +7,10 @@ ghost use lib.ListN.{length};
 ghost use Rattle.rounding.specs.Piece.{piece};
 ghost use Rattle.rounding.specs.Size.{Admitted, Sized};
 use half_sum::weights;
+
+const SIZE_MIN: i64 = -268_435_456;
+
+const SIZE_MAX: i64 = 268_435_456;
 
 // The size rule, for one list and one gap.
 fn sized(h: u64, c: &[i32]) -> bool
@@ -16,10 +21,10 @@ fn sized(h: u64, c: &[i32]) -> bool
     let mut j = 0;
     while j < 8 {
         let x = w[j];
-        if x < -268_435_456 {
+        if x < SIZE_MIN {
             return false;
         }
-        if 268_435_456 < x {
+        if SIZE_MAX < x {
             return false;
         }
         j += 1;

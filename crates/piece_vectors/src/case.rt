@@ -40,7 +40,7 @@ fn coefficients(bytes: &[u8], at: usize) -> [i32; 8]
     c
 }
 
-// Value, trend and total, or that the piece cannot be one of a reel.
+// Value, trend and total; `refused` where the piece cannot be one of a reel, which no stored case is.
 fn answer(h: u64, left: &[i32], right: &[i32], r: u64) {
     if admitted(h, left, right, r) {
         number(piece::value(h, left, right, r), b" ");
@@ -51,21 +51,21 @@ fn answer(h: u64, left: &[i32], right: &[i32], r: u64) {
     }
 }
 
-// Answers the case in these bytes; grades above 7 cannot be asked and get no line.
+// Answers the case in these bytes; one with more than 8 coefficients at an end is passed over.
 pub fn run(bytes: &[u8])
     requires { ⌜ 80 ≤ length (now bytes) ⌝ }
 {
     let h = word(bytes, 0);
-    let m = word(bytes, 4) as usize;
-    let n = word(bytes, 8) as usize;
+    let left_count = word(bytes, 4) as usize;
+    let right_count = word(bytes, 8) as usize;
     let r = word(bytes, 12);
     let left = coefficients(bytes, 16);
     let right = coefficients(bytes, 48);
-    if 8 < m {
+    if 8 < left_count {
         return;
     }
-    if 8 < n {
+    if 8 < right_count {
         return;
     }
-    answer(h, &left[..m], &right[..n], r);
+    answer(h, &left[..left_count], &right[..right_count], r);
 }

@@ -71,9 +71,7 @@ most-6 = sound (upto 7 (λ n. upto 6 (λ i. binomials n i - 3003 ≗ 0))) tt
 sums-within : (B Γ n i : ℕ) (w : ℕ → ℤ) → binomials n i - Γ ≡ 0 → ((j : ℕ) → j ≤ i → Within B (w j)) → Within (Γ * B) (g n w i)
 unfolding binomials g
 sums-within B Γ n i w most small =
-    let below : shares i (λ j. binomial (n + i - j) (i - j)) ≤ Γ = omega arith in
-    within-more (mul-le-mul-right B below)
-    (within-sum B i (λ j. binomial (n + i - j) (i - j)) _ (λ j h. within-mul (pos (binomial (n + i - j) (i - j))) (w j) (within-natural (binomial (n + i - j) (i - j))) (small j h)))
+    within-sum B Γ i (λ j. binomial (n + i - j) (i - j)) _ (omega arith) (λ j h. within-mul (pos (binomial (n + i - j) (i - j))) (w j) (within-natural (binomial (n + i - j) (i - j))) (small j h))
 
 pub g-within : (B n i : ℕ) (w : ℕ → ℤ) → n ≤ 7 → i ≤ 7 → ((j : ℕ) → j ≤ i → Within B (w j)) → Within (6435 * B) (g n w i)
 g-within B n i w hn hi = sums-within B 6435 n i w (most-7 n hn i hi)
@@ -121,9 +119,7 @@ kappas-most = sound (upto 7 (λ m. upto 7 (λ n. shares m (kappa m n) - 91520 �
 pub sumK-within : (m n : ℕ) (w : ℕ → ℤ) → m ≤ 7 → n ≤ 7 → ((j : ℕ) → j ≤ m → Within sizeMax (w j)) → Within (91520 * sizeMax) (sumK m n w)
 unfolding sumK
 sumK-within m n w hm hn small =
-    let below : shares m (kappa m n) ≤ 91520 = omega (arith, kappas-most m hm n hn) in
-    within-more (mul-le-mul-right sizeMax below)
-    (within-sum sizeMax m (kappa m n) _ (λ j h. within-more (omega arith) (within-mul (w j) (pos (kappa m n j)) (small j h) (within-natural (kappa m n j)))))
+    within-sum sizeMax 91520 m (kappa m n) _ (omega (arith, kappas-most m hm n hn)) (λ j h. within-more (omega arith) (within-mul (w j) (pos (kappa m n j)) (small j h) (within-natural (kappa m n j))))
 
 pub scaledK-within : {B : ℕ} (m n r d : ℕ) (k : ℤ) → 0 < d → r ≤ d → Within B k → Within (valueUnit * B) (scaledK m n r d k)
 unfolding scaledK
@@ -138,6 +134,4 @@ entries-most = sound (upto 7 (λ m. upto 7 (λ n. shares m (c m n) - 2 * waterUn
 
 pub side-within : (m n : ℕ) (w : ℕ → ℤ) → m ≤ 7 → n ≤ 7 → ((j : ℕ) → j ≤ m → Within sizeMax (w j)) → Within (2 * waterUnit * sizeMax) (sum m (λ j. w j *ℤ pos (c m n j)))
 side-within m n w hm hn small =
-    let below : shares m (c m n) ≤ 2 * waterUnit = omega (arith, entries-most m hm n hn) in
-    within-more (mul-le-mul-right sizeMax below)
-    (within-sum sizeMax m (c m n) _ (λ j h. within-more (omega arith) (within-mul (w j) (pos (c m n j)) (small j h) (within-natural (c m n j)))))
+    within-sum sizeMax (2 * waterUnit) m (c m n) _ (omega (arith, entries-most m hm n hn)) (λ j h. within-more (omega arith) (within-mul (w j) (pos (c m n j)) (small j h) (within-natural (c m n j))))

@@ -27,9 +27,15 @@ module _ (t : List ℕ) (right : T (entries-are weight-at 0 t)) (all : length t 
       entry-is weight-at t right (64 * m + 8 * n + j) (omega (arith, all)) ∙ rw (a, b, d) refl
 
   -- the sum of one end
-  pub sum-by-table : (m n : ℕ) → m ≤ 7 → n ≤ 7 → (w : List ℤ) {v : ℕ → ℤ} → Agree m (coefficient w) v →
+  sum-by-table : (m n : ℕ) → m ≤ 7 → n ≤ 7 → (w : List ℤ) {v : ℕ → ℤ} → Agree m (coefficient w) v →
       sum m (term (take (512 - (64 * m + 8 * n)) (drop (64 * m + 8 * n) t)) w) ≡ sum m (λ j. v j *ℤ pos (c m n j))
   sum-by-table m n hm hn w agree =
       sum-cong m _ _ (λ j h.
       ap (λ x. pos x *ℤ coefficient w j) (part-entry t (512 - (64 * m + 8 * n)) (64 * m + 8 * n) j (omega arith) ∙ entry m n j hm hn (omega arith)) ∙ *ℤ-comm (pos (c m n j)) (coefficient w j) ∙
       ap (λ x. x *ℤ pos (c m n j)) (agree j h))
+
+  -- the sums of both ends, the right one with the grades exchanged
+  pub sums-by-table : (m n : ℕ) → m ≤ 7 → n ≤ 7 → (w v : List ℤ) {f g : ℕ → ℤ} → Agree m (coefficient w) f → Agree n (coefficient v) g → {x y : ℤ} →
+      x ≡ sum m (term (take (512 - (64 * m + 8 * n)) (drop (64 * m + 8 * n) t)) w) → y ≡ sum n (term (take (512 - (64 * n + 8 * m)) (drop (64 * n + 8 * m) t)) v) →
+      (x ≡ sum m (λ j. f j *ℤ pos (c m n j))) × (y ≡ sum n (λ j. g j *ℤ pos (c n m j)))
+  sums-by-table m n hm hn w v left right-side e d = (e ∙ sum-by-table m n hm hn w left, d ∙ sum-by-table n m hn hm v right-side)

@@ -4,7 +4,8 @@ use mathlib.Core.Path.{_∙_, ap}
 use lib.IntN.{_*ℤ_}
 use Rattle.hermite.specs.Binomial.{sign}
 use Rattle.hermite.specs.Blend.{rightWeights}
-use Rattle.half_sum.proofs.Lists.{sized-weights}
+use Rattle.rounding.proofs.Bounds.{sized-within}
+use Rattle.half_sum.proofs.Lists.{listed-weights}
 use Rattle.half_sum.proofs.knot_weights.right_weights.Statement.{statement}
 use Rattle.half_sum.proofs.knot_weights.right_weights.Tie as tie
 
@@ -12,7 +13,7 @@ weights-requires : tie.Need-weights-requires
 weights-requires c κs = search needs
 
 alternated-requires : tie.Need-alternated-requires
-alternated-requires c κs = sized-weights (c .before .args .h) (c .before .args .c .now) (c .before .pre .2) (c .weights .ensures)
+alternated-requires c κs = listed-weights (c .weights .ensures) (λ j. sized-within (c .before .args .h) (c .before .args .c .now) j (c .before .pre .2))
 
 returns : tie.Need-returns
 unfolding rightWeights

@@ -20,13 +20,13 @@ module _ (u a : ℕ) (s : Divisor) (known : Fraction a s) where
   rest-small : u % s .d * a ≤ 4095 * 4096
   rest-small = mul-le-mul {n₂ = 4095} {m₂ = 4096} (omega (arith, below-divisor)) (omega arith)
 
-  inverse-small : s .inverse ≤ 2 ^ 36 + 1
+  inverse-small : s .reciprocal ≤ 2 ^ 36 + 1
   inverse-small = omega (arith, known .divides .reciprocal, div-le-self (2 ^ 36) (s .d))
 
-  product-fits : Fits w64 (u % s .d * a * s .inverse)
+  product-fits : Fits w64 (u % s .d * a * s .reciprocal)
   product-fits = fits-le (mul-le-mul rest-small inverse-small) (fits-lit tt)
 
-  whole : u / s .d * a + u % s .d * a * s .inverse / 2 ^ 36 ≡ u * a / s .d
+  whole : u / s .d * a + u % s .d * a * s .reciprocal / 2 ^ 36 ≡ u * a / s .d
   whole =
       ap (λ y. u / s .d * a + u % s .d * a * y / 2 ^ 36) (known .divides .reciprocal) ∙
       ap (λ y. u / s .d * a + y) (by-reciprocal (2 ^ 36) (s .d) (u % s .d * a) (known .divides .atLeast) below) ∙ in-parts u a (s .d) (known .divides .atLeast)
@@ -34,7 +34,7 @@ module _ (u a : ℕ) (s : Divisor) (known : Fraction a s) where
       below : u % s .d * a * s .d < 2 ^ 36
       below = omega (arith, mul-le-mul rest-small (known .divides .atMost))
 
-  whole-small : u / s .d * a + u % s .d * a * s .inverse / 2 ^ 36 ≤ u
+  whole-small : u / s .d * a + u % s .d * a * s .reciprocal / 2 ^ 36 ≤ u
   whole-small = rw whole (part-below u a (s .d) (known .proper))
 
   first-small : u / s .d * a ≤ u
@@ -44,22 +44,22 @@ div-result : tie.Need-div-result
 div-result c = search needs
 
 mul-result : tie.Need-mul-result
-mul-result c = let b = c .before in fits-le (first-small (b .args .u) (b .args .a) (b .args .s) (b .pre)) (b .fits .u)
+mul-result c = let b = c .before in fits-le (first-small (b .args .u) (b .args .a) (b .args .divisor) (b .pre)) (b .fits .u)
 
 rem-result : tie.Need-rem-result
 rem-result c = search needs
 
 mul-result-2 : tie.Need-mul-result-2
-mul-result-2 c = let b = c .before .before in fits-le (rest-small (b .args .u) (b .args .a) (b .args .s) (b .pre)) (fits-lit tt)
+mul-result-2 c = let b = c .before .before in fits-le (rest-small (b .args .u) (b .args .a) (b .args .divisor) (b .pre)) (fits-lit tt)
 
 mul-result-3 : tie.Need-mul-result-3
-mul-result-3 c = let b = c .before .before .before in product-fits (b .args .u) (b .args .a) (b .args .s) (b .pre)
+mul-result-3 c = let b = c .before .before .before in product-fits (b .args .u) (b .args .a) (b .args .divisor) (b .pre)
 
 add-result : tie.Need-add-result
-add-result c = let b = c .before .before .before in fits-le (whole-small (b .args .u) (b .args .a) (b .args .s) (b .pre)) (b .fits .u)
+add-result c = let b = c .before .before .before in fits-le (whole-small (b .args .u) (b .args .a) (b .args .divisor) (b .pre)) (b .fits .u)
 
 returns : tie.Need-returns
-returns c = let b = c .before .before .before in whole (b .args .u) (b .args .a) (b .args .s) (b .pre)
+returns c = let b = c .before .before .before in whole (b .args .u) (b .args .a) (b .args .divisor) (b .pre)
 
 pub part-spec : {M : Type 1} → statement M
 part-spec =

@@ -25,7 +25,7 @@ loop-holds c = (omega arith, refl)
 scaled-requires : tie.Need-scaled-requires Inv-loop μ-loop
 scaled-requires c κs =
     let b = c .before .before in
-    (b .pre .0, rw (c .before .loop .inv .1, toZ-ofZ (b .fits .u)) (times-within (c .before .loop .i) (b .args .u) (b .args .a) (b .args .s .d) (b .pre .0 .divides .atLeast) (b .pre .0 .proper) (b .pre .1)))
+    (b .pre .0, rw (c .before .loop .inv .1, toZ-ofZ (b .fits .u)) (times-within (c .before .loop .i) (b .args .u) (b .args .a) (b .args .divisor .d) (b .pre .0 .divides .atLeast) (b .pre .0 .proper) (b .pre .1)))
 
 add-i : tie.Need-add-i Inv-loop μ-loop
 add-i c = omega arith
@@ -38,7 +38,7 @@ unfolding scaledTimes
 loop-again c =
     let b = c .before .before .before in
     let l = c .before .before .loop in
-    (omega arith, rw (result-is (c .scaled .result) (c .scaled .ok), add-one) (c .scaled .ensures ∙ ap (λ z. scaled z (b .args .a) (b .args .s .d)) (l .inv .1)))
+    (omega arith, rw (result-is (c .scaled .result) (c .scaled .ok), add-one) (c .scaled .ensures ∙ ap (λ z. scaled z (b .args .a) (b .args .divisor .d)) (l .inv .1)))
 
 returns : tie.Need-returns Inv-loop μ-loop
 returns c =

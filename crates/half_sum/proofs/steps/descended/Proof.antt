@@ -33,13 +33,13 @@ module _ (b : tie.Start Inv-loop μ-loop) where
   unit-fits : (j : ℕ) → j ≤ 7 → SFits w64 (pos valueUnit *ℤ coefficient (b .args .g .now) j)
   unit-fits j h = within-fits w64 _ (lit< tt) (within-mul (pos valueUnit) (coefficient (b .args .g .now) j) (within-natural valueUnit) (b .pre .2 .small j h))
 
-  u-within : (k i : ℕ) → i + k ≤ 7 → Within (2 ^ 63 - 1) (descended (coefficient (b .args .g .now)) (b .args .a) (b .args .s .d) k i)
+  u-within : (k i : ℕ) → i + k ≤ 7 → Within (2 ^ 63 - 1) (descended (coefficient (b .args .g .now)) (b .args .a) (b .args .divisor .d) k i)
   u-within k i h =
       let rounds : k + 1 ≤ 8 = omega arith in
       within-more (le-trans (mul-le-mul-right (valueUnit * (6435 * (7 * sizeMax))) rounds) (lit≤ tt))
-      (descended-within (6435 * (7 * sizeMax)) (coefficient (b .args .g .now)) (b .args .a) (b .args .s .d) k i (b .pre .1 .divides .atLeast) (b .pre .1 .proper) (λ j l. b .pre .2 .small j (omega arith)))
+      (descended-within (6435 * (7 * sizeMax)) (coefficient (b .args .g .now)) (b .args .a) (b .args .divisor .d) k i (b .pre .1 .divides .atLeast) (b .pre .1 .proper) (λ j l. b .pre .2 .small j (omega arith)))
 
-  u-fits : (k i : ℕ) → i + k ≤ 7 → SFits w64 (descended (coefficient (b .args .g .now)) (b .args .a) (b .args .s .d) k i)
+  u-fits : (k i : ℕ) → i + k ≤ 7 → SFits w64 (descended (coefficient (b .args .g .now)) (b .args .a) (b .args .divisor .d) k i)
   u-fits k i h = within-fits w64 _ (lit< tt) (u-within k i h)
 
 mul-u : tie.Need-mul-u Inv-loop μ-loop
@@ -81,7 +81,7 @@ mul-u-4 c =
 -- one round more
 round : (c : tie.After-u2 Inv-loop μ-loop) → let l = c .before .before .before in let b = l .before .before in
     toZ w64 (ofZ w64 (c .before .scaled .result)) +ℤ toZ w64 (ofZ w64 (pos valueUnit *ℤ toZ w64 (ofZ w64 (coefficient (b .args .g .now) (l .loop .i - 1))))) ≡
-    descended (coefficient (b .args .g .now)) (b .args .a) (b .args .s .d) (b .args .m - (l .loop .i - 1)) (l .loop .i - 1)
+    descended (coefficient (b .args .g .now)) (b .args .a) (b .args .divisor .d) (b .args .m - (l .loop .i - 1)) (l .loop .i - 1)
 unfolding descended
 round c =
     let l = c .before .before .before in
@@ -89,7 +89,7 @@ round c =
     let next : b .args .m - (l .loop .i - 1) ≡ suc (b .args .m - l .loop .i) = omega arith in
     let back : suc (l .loop .i - 1) ≡ l .loop .i = omega arith in
     rw (next, back, unit-is b (l .loop .i - 1) (omega arith), toZ-ofZ (unit-fits b (l .loop .i - 1) (omega arith)), result-is (c .before .scaled .result) (c .before .scaled .ok))
-    (ap (λ z. z +ℤ pos valueUnit *ℤ coefficient (b .args .g .now) (l .loop .i - 1)) (c .before .scaled .ensures ∙ ap (λ z. scaled z (b .args .a) (b .args .s .d)) (l .loop .inv .1)))
+    (ap (λ z. z +ℤ pos valueUnit *ℤ coefficient (b .args .g .now) (l .loop .i - 1)) (c .before .scaled .ensures ∙ ap (λ z. scaled z (b .args .a) (b .args .divisor .d)) (l .loop .inv .1)))
 
 add-u : tie.Need-add-u Inv-loop μ-loop
 add-u c =

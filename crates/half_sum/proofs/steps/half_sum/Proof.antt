@@ -37,10 +37,10 @@ descended-requires c κs =
 
 -- u of step 2
 module _ (c : tie.After-descended) where
-  u-is : let b = c .before .before .before in c .descended .result ≡ descended (g (b .args .n) (coefficient (b .args .w .now))) (b .args .a) (b .args .s .d) (b .args .m) 0
+  u-is : let b = c .before .before .before in c .descended .result ≡ descended (g (b .args .n) (coefficient (b .args .w .now))) (b .args .a) (b .args .divisor .d) (b .args .m) 0
   u-is =
       let b = c .before .before .before in
-      c .descended .ensures ∙ descended-agree (b .args .a) (b .args .s .d) (b .args .m) 0 (λ j h. c .before .before .sums .ensures .entry j (omega arith))
+      c .descended .ensures ∙ descended-agree (b .args .a) (b .args .divisor .d) (b .args .m) 0 (λ j h. c .before .before .sums .ensures .entry j (omega arith))
 
   u-within : Within (2 ^ 63 - 1) (c .descended .result)
   u-within =
@@ -48,11 +48,11 @@ module _ (c : tie.After-descended) where
       let rounds : b .args .m + 1 ≤ 8 = omega arith in
       rw u-is
       (within-more (le-trans (mul-le-mul-right (valueUnit * (6435 * (7 * sizeMax))) rounds) (lit≤ tt))
-      (descended-within (6435 * (7 * sizeMax)) _ (b .args .a) (b .args .s .d) (b .args .m) 0 (b .pre .2 .divides .atLeast) (b .pre .2 .proper)
+      (descended-within (6435 * (7 * sizeMax)) _ (b .args .a) (b .args .divisor .d) (b .args .m) 0 (b .pre .2 .divides .atLeast) (b .pre .2 .proper)
       (λ j h. g-within (7 * sizeMax) (b .args .n) j (coefficient (b .args .w .now)) (b .pre .1) (omega arith) (λ i k. b .pre .3 .small i (omega arith)))))
 
-sub-rest : tie.Need-sub-rest
-sub-rest c = search needs
+sub-complement : tie.Need-sub-complement
+sub-complement c = search needs
 
 add-scaled-times : tie.Need-add-scaled-times
 add-scaled-times c = search needs
@@ -67,7 +67,7 @@ unfolding halfSum
 returns c =
     let b = c .before .before .before .before .before in
     result-is (c .scaled-times .result) (c .scaled-times .ok) ∙ c .scaled-times .ensures ∙
-    ap (λ z. scaledTimes (b .args .n + 1) z (b .args .s .d - b .args .a) (b .args .s .d)) (result-is (c .before .before .descended .result) (c .before .before .descended .ok) ∙ u-is (c .before .before))
+    ap (λ z. scaledTimes (b .args .n + 1) z (b .args .divisor .d - b .args .a) (b .args .divisor .d)) (result-is (c .before .before .descended .result) (c .before .before .descended .ok) ∙ u-is (c .before .before))
 
 pub half-sum-spec : {M : Type 1} → statement M
 half-sum-spec =
@@ -76,7 +76,7 @@ half-sum-spec =
     sums-requires
     slice-aggregate-descended
     descended-requires
-    sub-rest
+    sub-complement
     add-scaled-times
     scaled-times-requires
     returns)

@@ -20,8 +20,9 @@ use Rattle.rounding.specs.Scaling.{rounded, scaled}
 use Rattle.rounding.specs.Size.{sizeMax}
 use Rattle.rounding.specs.Trend.{Y1, Y2, Y3, scaledK, trend}
 use Rattle.rounding.proofs.Agree.{lowerHalfSum-agree, sumK-agree}
+use Rattle.rounding.proofs.Fits.{K-within, difference-within, slope-within}
 use Rattle.rounding.proofs.Bounds.{sized-within, right-sized, lower-within, sumK-within, scaledK-within}
-use Rattle.half_sum.proofs.Lists.{sized-weights, right-weights}
+use Rattle.half_sum.proofs.Lists.{listed-weights}
 use Rattle.half_sum.proofs.Machine.{result-is}
 use Rattle.piece.proofs.curve.trend.Statement.{statement}
 use Rattle.piece.proofs.curve.trend.Tie as tie
@@ -54,11 +55,11 @@ lower-half-sum-requires c κs =
       omega arith,
       omega arith,
       record { divides = s .ensures .1; proper = omega (arith, s .ensures .0) },
-      sized-weights (b .args .h) (b .args .left .now) (b .pre .0 .leftSize) (c .before .before .weights .ensures),
+      listed-weights (c .before .before .weights .ensures) (λ j. sized-within (b .args .h) (b .args .left .now) j (b .pre .0 .leftSize)),
     )
 
-sub-rest : tie.Need-sub-rest
-sub-rest c = search needs
+sub-complement : tie.Need-sub-complement
+sub-complement c = search needs
 
 slice-aggregate-lower-half-sum-2 : tie.Need-slice-aggregate-lower-half-sum-2
 slice-aggregate-lower-half-sum-2 c = search needs
@@ -70,7 +71,7 @@ lower-half-sum-requires-2 c κs =
       omega arith,
       omega arith,
       record { divides = s .ensures .1; proper = omega arith },
-      right-weights (b .args .h) (b .args .right .now) (b .pre .0 .rightSize) (c .before .before .before .before .right-weights .ensures),
+      listed-weights (c .before .before .before .before .right-weights .ensures) (λ j. right-sized (b .args .h) (b .args .right .now) j (b .pre .0 .rightSize)),
     )
 
 slice-aggregate-sum-k : tie.Need-slice-aggregate-sum-k
@@ -79,7 +80,7 @@ slice-aggregate-sum-k c = search needs
 sum-k-requires : tie.Need-sum-k-requires
 sum-k-requires c κs =
     let b = c .before .before .before .before .before .before .before .before .before in
-    (omega arith, omega arith, right-weights (b .args .h) (b .args .right .now) (b .pre .0 .rightSize) (c .before .before .before .before .before .before .right-weights .ensures))
+    (omega arith, omega arith, listed-weights (c .before .before .before .before .before .before .right-weights .ensures) (λ j. right-sized (b .args .h) (b .args .right .now) j (b .pre .0 .rightSize)))
 
 slice-aggregate-sum-k-2 : tie.Need-slice-aggregate-sum-k-2
 slice-aggregate-sum-k-2 c = search needs
@@ -87,7 +88,7 @@ slice-aggregate-sum-k-2 c = search needs
 sum-k-requires-2 : tie.Need-sum-k-requires-2
 sum-k-requires-2 c κs =
     let b = c .before .before .before .before .before .before .before .before .before .before .before in
-    (omega arith, omega arith, sized-weights (b .args .h) (b .args .left .now) (b .pre .0 .leftSize) (c .before .before .before .before .before .before .before .before .before .weights .ensures))
+    (omega arith, omega arith, listed-weights (c .before .before .before .before .before .before .before .before .before .weights .ensures) (λ j. sized-within (b .args .h) (b .args .left .now) j (b .pre .0 .leftSize)))
 
 -- where the function starts, the piece, and its divisor D
 abbrev start : tie.After-sum-k2 → tie.Start
@@ -122,31 +123,12 @@ module _ (c : tie.After-sum-k2) where
       (c .before .before .sum-k .ensures ∙ sumK-agree (n (P c)) (m (P c)) (λ j h. c .before .before .before .before .before .before .before .before .before .right-weights .ensures .entry j (omega arith)))
       (c .sum-k2 .ensures ∙ sumK-agree (m (P c)) (n (P c)) (λ j h. c .before .before .before .before .before .before .before .before .before .before .weights .ensures .entry j (omega arith)))
 
-  -- how large they are
-  y1-within : Within (7 * (valueUnit * (3003 * (7 * sizeMax)))) (Y1 (P c) (start c .args .r))
-  unfolding Y1
-  y1-within = lower-within (m (P c)) (n (P c)) (start c .args .r) (D (P c)) (p (P c)) (omega arith) (omega arith) (omega arith) (omega arith) (λ j h. sized-within (P c .h) (P c .left) j (start c .pre .0 .leftSize))
-
-  y2-within : Within (7 * (valueUnit * (3003 * (7 * sizeMax)))) (Y2 (P c) (start c .args .r))
-  unfolding Y2
-  y2-within = lower-within (n (P c)) (m (P c)) (D (P c) - start c .args .r) (D (P c)) (rightWeights (q (P c))) (omega arith) (omega arith) (omega arith) (omega arith) (λ j h. right-sized (P c .h) (P c .right) j (start c .pre .0 .rightSize))
-
-  k-within : Within (2 * (91520 * sizeMax)) (K (m (P c)) (n (P c)) (p (P c)) (q (P c)))
-  unfolding K
-  k-within =
-      within-add _ (negℤ (sumK (m (P c)) (n (P c)) (p (P c))))
-      (sumK-within (n (P c)) (m (P c)) (rightWeights (q (P c))) (omega arith) (omega arith) (λ j h. right-sized (P c .h) (P c .right) j (start c .pre .0 .rightSize)))
-      (within-neg _ (sumK-within (m (P c)) (n (P c)) (p (P c)) (omega arith) (omega arith) (λ j h. sized-within (P c .h) (P c .left) j (start c .pre .0 .leftSize))))
-
-  difference-within : Within (2 * (7 * (valueUnit * (3003 * (7 * sizeMax))))) (Y1 (P c) (start c .args .r) -ℤ Y2 (P c) (start c .args .r))
-  difference-within = within-add (Y1 (P c) (start c .args .r)) (negℤ (Y2 (P c) (start c .args .r))) y1-within (within-neg (Y2 (P c) (start c .args .r)) y2-within)
-
   -- as the machine has them
   machine-k : toZ w64 (ofZ w64 (c .before .before .sum-k .result)) -ℤ toZ w64 (ofZ w64 (c .sum-k2 .result)) ≡ K (m (P c)) (n (P c)) (p (P c)) (q (P c))
   machine-k = ap₂ (λ x y. x -ℤ y) (result-is (c .before .before .sum-k .result) (c .before .before .sum-k .ok)) (result-is (c .sum-k2 .result) (c .sum-k2 .ok)) ∙ k-is
 
   k-fits : SFits w64 (K (m (P c)) (n (P c)) (p (P c)) (q (P c)))
-  k-fits = within-fits w64 _ (lit< tt) k-within
+  k-fits = within-fits w64 _ (lit< tt) (K-within (P c) (start c .pre .0))
 
   machine-difference : toZ w64 (ofZ w64 (c .before .before .before .before .before .before .before .lower-half-sum .result)) -ℤ toZ w64 (ofZ w64 (c .before .before .before .before .lower-half-sum2 .result)) ≡
       Y1 (P c) (start c .args .r) -ℤ Y2 (P c) (start c .args .r)
@@ -155,7 +137,7 @@ module _ (c : tie.After-sum-k2) where
       (result-is (c .before .before .before .before .lower-half-sum2 .result) (c .before .before .before .before .lower-half-sum2 .ok) ∙ y2-is)
 
   difference-fits : SFits w64 (Y1 (P c) (start c .args .r) -ℤ Y2 (P c) (start c .args .r))
-  difference-fits = within-fits w64 _ (lit< tt) difference-within
+  difference-fits = within-fits w64 _ (lit< tt) (difference-within (P c) (start c .pre .0) (start c .args .r) (start c .pre .1))
 
 sub-k : tie.Need-sub-k
 sub-k c = rw (machine-k c) (k-fits c)
@@ -163,33 +145,29 @@ sub-k c = rw (machine-k c) (k-fits c)
 sub-scaled : tie.Need-sub-scaled
 sub-scaled c = rw (machine-difference c) (difference-fits c)
 
-y3-requires : tie.Need-y3-requires
-y3-requires c κs =
+scaled-k-requires : tie.Need-scaled-k-requires
+scaled-k-requires c κs =
     let s = c .before .before .before .before .before .before .before .before .before .before .before .of in
-    (record { divides = s .ensures .1; proper = omega (arith, s .ensures .0) }, rw (machine-k c, toZ-ofZ (k-fits c)) (k-within c))
+    (record { divides = s .ensures .1; proper = omega (arith, s .ensures .0) }, rw (machine-k c, toZ-ofZ (k-fits c)) (K-within (P c) (start c .pre .0)))
 
 -- Y3, and Y1 − Y2 + Y3
-module _ (c : tie.After-y3) where
-  y3-is : c .y3 .result ≡ Y3 (P (c .before)) (start (c .before) .args .r)
+module _ (c : tie.After-scaled-k) where
+  y3-is : c .scaled-k .result ≡ Y3 (P (c .before)) (start (c .before) .args .r)
   unfolding Y3
   y3-is =
-      c .y3 .ensures ∙
+      c .scaled-k .ensures ∙
       ap₂ (λ d k. scaledK (m (P (c .before))) (n (P (c .before))) (start (c .before) .args .r) d k) (D-is (c .before))
       (ap (λ z. toZ w64 (ofZ w64 z)) (machine-k (c .before)) ∙ toZ-ofZ (k-fits (c .before)))
 
-  y3-within : Within (valueUnit * (2 * (91520 * sizeMax))) (Y3 (P (c .before)) (start (c .before) .args .r))
-  unfolding Y3
-  y3-within = scaledK-within (m (P (c .before))) (n (P (c .before))) (start (c .before) .args .r) (D (P (c .before))) _ (omega arith) (omega arith) (k-within (c .before))
-
   sum-within : Within (2 ^ 63 - 1) (Y1 (P (c .before)) (start (c .before) .args .r) -ℤ Y2 (P (c .before)) (start (c .before) .args .r) +ℤ Y3 (P (c .before)) (start (c .before) .args .r))
-  sum-within = within-more (lit≤ tt) (within-add _ (Y3 (P (c .before)) (start (c .before) .args .r)) (difference-within (c .before)) y3-within)
+  sum-within = slope-within (P (c .before)) (start (c .before) .pre .0) (start (c .before) .args .r) (start (c .before) .pre .1)
 
   sum-fits : SFits w64 (Y1 (P (c .before)) (start (c .before) .args .r) -ℤ Y2 (P (c .before)) (start (c .before) .args .r) +ℤ Y3 (P (c .before)) (start (c .before) .args .r))
   sum-fits = within-fits w64 _ (lit< tt) sum-within
 
-  machine-sum : toZ w64 (ofZ w64 (toZ w64 (ofZ w64 (c .before .before .before .before .before .before .before .before .lower-half-sum .result)) -ℤ toZ w64 (ofZ w64 (c .before .before .before .before .before .lower-half-sum2 .result)))) +ℤ toZ w64 (ofZ w64 (c .y3 .result)) ≡
+  machine-sum : toZ w64 (ofZ w64 (toZ w64 (ofZ w64 (c .before .before .before .before .before .before .before .before .lower-half-sum .result)) -ℤ toZ w64 (ofZ w64 (c .before .before .before .before .before .lower-half-sum2 .result)))) +ℤ toZ w64 (ofZ w64 (c .scaled-k .result)) ≡
       Y1 (P (c .before)) (start (c .before) .args .r) -ℤ Y2 (P (c .before)) (start (c .before) .args .r) +ℤ Y3 (P (c .before)) (start (c .before) .args .r)
-  machine-sum = ap₂ (λ x y. x +ℤ y) (ap (λ z. toZ w64 (ofZ w64 z)) (machine-difference (c .before)) ∙ toZ-ofZ (difference-fits (c .before))) (result-is (c .y3 .result) (c .y3 .ok) ∙ y3-is)
+  machine-sum = ap₂ (λ x y. x +ℤ y) (ap (λ z. toZ w64 (ofZ w64 z)) (machine-difference (c .before)) ∙ toZ-ofZ (difference-fits (c .before))) (result-is (c .scaled-k .result) (c .scaled-k .ok) ∙ y3-is)
 
 add-scaled : tie.Need-add-scaled
 add-scaled c = rw (machine-sum c) (sum-fits c)
@@ -225,7 +203,7 @@ trend-spec =
     right-weights-requires
     slice-aggregate-lower-half-sum
     lower-half-sum-requires
-    sub-rest
+    sub-complement
     slice-aggregate-lower-half-sum-2
     lower-half-sum-requires-2
     slice-aggregate-sum-k
@@ -234,7 +212,7 @@ trend-spec =
     sum-k-requires-2
     sub-k
     sub-scaled
-    y3-requires
+    scaled-k-requires
     add-scaled
     of-requires-2
     scaled-requires

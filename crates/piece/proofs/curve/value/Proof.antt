@@ -16,8 +16,9 @@ use Rattle.rounding.specs.HalfSum.{halfSum}
 use Rattle.rounding.specs.Piece.{Piece, piece, m, n, p, q, D}
 use Rattle.rounding.specs.Value.{value}
 use Rattle.rounding.proofs.Agree.{halfSum-agree}
+use Rattle.rounding.proofs.Fits.{value-within}
 use Rattle.rounding.proofs.Bounds.{sized-within, right-sized, half-within}
-use Rattle.half_sum.proofs.Lists.{sized-weights, right-weights, more-weights}
+use Rattle.half_sum.proofs.Lists.{more-weights, listed-weights}
 use Rattle.half_sum.proofs.Machine.{result-is}
 use Rattle.piece.proofs.curve.value.Statement.{statement}
 use Rattle.piece.proofs.curve.value.Tie as tie
@@ -50,11 +51,11 @@ half-sum-requires c κs =
       omega arith,
       omega arith,
       record { divides = s .ensures .1; proper = omega (arith, s .ensures .0) },
-      more-weights (lit≤ tt) (sized-weights (b .args .h) (b .args .left .now) (b .pre .0 .leftSize) (c .before .before .weights .ensures)),
+      more-weights (lit≤ tt) (listed-weights (c .before .before .weights .ensures) (λ j. sized-within (b .args .h) (b .args .left .now) j (b .pre .0 .leftSize))),
     )
 
-sub-rest : tie.Need-sub-rest
-sub-rest c = search needs
+sub-complement : tie.Need-sub-complement
+sub-complement c = search needs
 
 slice-aggregate-half-sum-2 : tie.Need-slice-aggregate-half-sum-2
 slice-aggregate-half-sum-2 c = search needs
@@ -66,7 +67,7 @@ half-sum-requires-2 c κs =
       omega arith,
       omega arith,
       record { divides = s .ensures .1; proper = omega arith },
-      more-weights (lit≤ tt) (right-weights (b .args .h) (b .args .right .now) (b .pre .0 .rightSize) (c .before .before .before .before .right-weights .ensures)),
+      more-weights (lit≤ tt) (listed-weights (c .before .before .before .before .right-weights .ensures) (λ j. right-sized (b .args .h) (b .args .right .now) j (b .pre .0 .rightSize))),
     )
 
 -- where the function starts, the piece, and its divisor D
@@ -93,18 +94,12 @@ module _ (c : tie.After-half-sum2) where
       ap (λ d. halfSum (n (P c)) (m (P c)) (d - start c .args .r) d (coefficient (c .before .before .before .before .before .right-weights .result))) (D-is c) ∙
       halfSum-agree (n (P c)) (m (P c)) (D (P c) - start c .args .r) (D (P c)) (λ j h. c .before .before .before .before .before .right-weights .ensures .entry j (omega arith))
 
-  left-within : Within (2 ^ 61) (c .before .before .before .half-sum .result)
-  left-within = rw left-is (half-within (m (P c)) (n (P c)) (start c .args .r) (D (P c)) (p (P c)) (omega arith) (omega arith) (omega arith) (omega arith) (λ j h. sized-within (P c .h) (P c .left) j (start c .pre .0 .leftSize)))
-
-  right-within : Within (2 ^ 61) (c .half-sum2 .result)
-  right-within = rw right-is (half-within (n (P c)) (m (P c)) (D (P c) - start c .args .r) (D (P c)) (rightWeights (q (P c))) (omega arith) (omega arith) (omega arith) (omega arith) (λ j h. right-sized (P c .h) (P c .right) j (start c .pre .0 .rightSize)))
-
   sum-is : c .before .before .before .half-sum .result +ℤ c .half-sum2 .result ≡ value (P c) (start c .args .r)
   unfolding value
   sum-is = ap₂ (λ x y. x +ℤ y) left-is right-is
 
   sum-fits : SFits w64 (c .before .before .before .half-sum .result +ℤ c .half-sum2 .result)
-  sum-fits = within-fits w64 _ (lit< tt) (within-add _ _ left-within right-within)
+  sum-fits = rw sum-is (within-fits w64 _ (lit< tt) (value-within (P c) (start c .pre .0) (start c .args .r) (start c .pre .1)))
 
 add-result : tie.Need-add-result
 add-result c =
@@ -126,7 +121,7 @@ value-spec =
     right-weights-requires
     slice-aggregate-half-sum
     half-sum-requires
-    sub-rest
+    sub-complement
     slice-aggregate-half-sum-2
     half-sum-requires-2
     add-result

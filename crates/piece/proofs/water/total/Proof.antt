@@ -17,11 +17,12 @@ use Rattle.hermite.specs.Water.{waterUnit, weightedSum, c as Water·c}
 use Rattle.rounding.specs.Piece.{Piece, piece, m, n, p, q}
 use Rattle.rounding.specs.Size.{sizeMax}
 use Rattle.rounding.specs.Water.{total}
+use Rattle.rounding.proofs.Fits.{weightedSum-within, total-within}
 use Rattle.rounding.proofs.Bounds.{sized-within, right-sized, side-within}
-use Rattle.half_sum.proofs.Lists.{sized-weights, right-weights, more-weights}
+use Rattle.half_sum.proofs.Lists.{more-weights, listed-weights}
 use Rattle.half_sum.proofs.Machine.{result-is}
 use Rattle.half_sum.proofs.Tables.{part-entries}
-use Rattle.piece.proofs.water.Recurrence.{sum-by-table}
+use Rattle.piece.proofs.water.Recurrence.{sums-by-table}
 use Rattle.piece.proofs.water.total.Statement.{statement}
 use Rattle.piece.proofs.water.total.Tie as tie
 
@@ -83,7 +84,7 @@ weighted-requires c κs =
       omega arith,
       simp (length-take, length-drop) (omega arith),
       part-entries _ (512 - row) row tt,
-      more-weights (lit≤ tt) (sized-weights (b .args .h) (b .args .left .now) (b .pre .leftSize) (c .before .before .before .before .weights .ensures)),
+      more-weights (lit≤ tt) (listed-weights (c .before .before .before .before .weights .ensures) (λ j. sized-within (b .args .h) (b .args .left .now) j (b .pre .leftSize))),
     )
 
 mul-weighted-2 : tie.Need-mul-weighted-2
@@ -108,7 +109,7 @@ weighted-requires-2 c κs =
       omega arith,
       simp (length-take, length-drop) (omega arith),
       part-entries _ (512 - row) row tt,
-      more-weights (lit≤ tt) (right-weights (b .args .h) (b .args .right .now) (b .pre .rightSize) (c .before .before .before .before .before .before .right-weights .ensures)),
+      more-weights (lit≤ tt) (listed-weights (c .before .before .before .before .before .before .right-weights .ensures) (λ j. right-sized (b .args .h) (b .args .right .now) j (b .pre .rightSize))),
     )
 
 -- where the function starts, and the piece
@@ -120,41 +121,31 @@ P c = piece (start c .args .h) (start c .args .left .now) (start c .args .right 
 
 -- the two ends, and h times their sum
 module _ (c : tie.After-weighted2) where
-  left-is : c .before .before .before .weighted .result ≡ sum (m (P c)) (λ j. p (P c) j *ℤ pos (Water·c (m (P c)) (n (P c)) j))
+  -- by one test of the table
+  sides-are : (c .before .before .before .weighted .result ≡ sum (m (P c)) (λ j. p (P c) j *ℤ pos (Water·c (m (P c)) (n (P c)) j))) ×
+      (c .weighted2 .result ≡ sum (n (P c)) (λ j. rightWeights (q (P c)) j *ℤ pos (Water·c (n (P c)) (m (P c)) j)))
   unfolding Water·c
-  left-is =
-      c .before .before .before .weighted .ensures ∙
-      sum-by-table _ tt refl (m (P c)) (n (P c)) (omega arith) (omega arith) (c .before .before .before .before .before .before .before .before .weights .result)
+  sides-are =
+      sums-by-table _ tt refl (m (P c)) (n (P c)) (omega arith) (omega arith)
+      (c .before .before .before .before .before .before .before .before .weights .result)
+      (c .before .before .before .before .before .before .before .right-weights .result)
       (λ j h. c .before .before .before .before .before .before .before .before .weights .ensures .entry j (omega arith))
-
-  right-is : c .weighted2 .result ≡ sum (n (P c)) (λ j. rightWeights (q (P c)) j *ℤ pos (Water·c (n (P c)) (m (P c)) j))
-  unfolding Water·c
-  right-is =
-      c .weighted2 .ensures ∙
-      sum-by-table _ tt refl (n (P c)) (m (P c)) (omega arith) (omega arith) (c .before .before .before .before .before .before .before .right-weights .result)
       (λ j h. c .before .before .before .before .before .before .before .right-weights .ensures .entry j (omega arith))
+      (c .before .before .before .weighted .ensures) (c .weighted2 .ensures)
 
   sum-is : toZ w64 (ofZ w64 (c .before .before .before .weighted .result)) +ℤ toZ w64 (ofZ w64 (c .weighted2 .result)) ≡ weightedSum (m (P c)) (n (P c)) (p (P c)) (q (P c))
   unfolding weightedSum
-  sum-is = ap₂ (λ x y. x +ℤ y) (result-is (c .before .before .before .weighted .result) (c .before .before .before .weighted .ok) ∙ left-is) (result-is (c .weighted2 .result) (c .weighted2 .ok) ∙ right-is)
-
-  sum-within : Within (2 * (2 * waterUnit * sizeMax)) (weightedSum (m (P c)) (n (P c)) (p (P c)) (q (P c)))
-  unfolding weightedSum
-  sum-within =
-      within-add _ _
-      (side-within (m (P c)) (n (P c)) (p (P c)) (omega arith) (omega arith) (λ j h. sized-within (P c .h) (P c .left) j (start c .pre .leftSize)))
-      (side-within (n (P c)) (m (P c)) (rightWeights (q (P c))) (omega arith) (omega arith) (λ j h. right-sized (P c .h) (P c .right) j (start c .pre .rightSize)))
+  sum-is = ap₂ (λ x y. x +ℤ y) (result-is (c .before .before .before .weighted .result) (c .before .before .before .weighted .ok) ∙ sides-are .0) (result-is (c .weighted2 .result) (c .weighted2 .ok) ∙ sides-are .1)
 
   sum-fits : SFits w64 (weightedSum (m (P c)) (n (P c)) (p (P c)) (q (P c)))
-  sum-fits = within-fits w64 _ (lit< tt) sum-within
+  sum-fits = within-fits w64 _ (lit< tt) (weightedSum-within (P c) (start c .pre))
 
   total-is : toZ w64 (start c .args .h) *ℤ toZ w64 (ofZ w64 (toZ w64 (ofZ w64 (c .before .before .before .weighted .result)) +ℤ toZ w64 (ofZ w64 (c .weighted2 .result)))) ≡ total (P c)
   unfolding total
   total-is = ap₂ (λ x y. x *ℤ y) (toZ-pos w64 {n = start c .args .h} (omega arith)) (ap (λ z. toZ w64 (ofZ w64 z)) sum-is ∙ toZ-ofZ sum-fits)
 
   total-fits : SFits w64 (total (P c))
-  unfolding total
-  total-fits = within-fits w64 _ (lit< tt) (within-mul (pos (P c .h)) _ (within-more (start c .pre .gapAtMost) (within-natural (P c .h))) sum-within)
+  total-fits = within-fits w64 (total (P c)) (lit< tt) (total-within (P c) (start c .pre))
 
 add-result : tie.Need-add-result
 add-result c = rw (sum-is c) (sum-fits c)

@@ -1,4 +1,4 @@
--- `piece::slope::y3` meets its contract.
+-- `piece::slope::scaled_k` meets its contract.
 use borrow.Author.Needs.{needs}
 use mathlib.Core.Path.{_≡_, _∙_, ap}
 use Prim.Native.Nat.{_-_, _^_}
@@ -15,8 +15,8 @@ use Rattle.rounding.specs.Scaling.{scaledTimes}
 use Rattle.rounding.specs.Trend.{scaledK}
 use Rattle.rounding.proofs.Bounds.{times-within}
 use Rattle.half_sum.proofs.Machine.{result-is}
-use Rattle.piece.proofs.slope.y3.Statement.{statement}
-use Rattle.piece.proofs.slope.y3.Tie as tie
+use Rattle.piece.proofs.slope.scaled_k.Statement.{statement}
+use Rattle.piece.proofs.slope.scaled_k.Tie as tie
 
 -- 65,536 × k
 module _ (b : tie.Start) where
@@ -31,11 +31,11 @@ module _ (b : tie.Start) where
 
 -- scaled by r/d, m times
 first-is : (c : tie.After-scaled-times) → let b = c .before in
-    toZ w64 (ofZ w64 (c .scaled-times .result)) ≡ scaledTimes (b .args .m) (pos valueUnit *ℤ b .args .k) (b .args .r) (b .args .s .d)
+    toZ w64 (ofZ w64 (c .scaled-times .result)) ≡ scaledTimes (b .args .m) (pos valueUnit *ℤ b .args .k) (b .args .r) (b .args .divisor .d)
 first-is c =
     let b = c .before in
     result-is (c .scaled-times .result) (c .scaled-times .ok) ∙ c .scaled-times .ensures ∙
-    ap (λ z. scaledTimes (b .args .m) z (b .args .r) (b .args .s .d)) (ap (λ z. toZ w64 (ofZ w64 z)) (unit-is b) ∙ toZ-ofZ (unit-fits b))
+    ap (λ z. scaledTimes (b .args .m) z (b .args .r) (b .args .divisor .d)) (ap (λ z. toZ w64 (ofZ w64 z)) (unit-is b) ∙ toZ-ofZ (unit-fits b))
 
 mul-scaled-times : tie.Need-mul-scaled-times
 mul-scaled-times c = rw (unit-is c) (unit-fits c)
@@ -43,14 +43,14 @@ mul-scaled-times c = rw (unit-is c) (unit-fits c)
 scaled-times-requires : tie.Need-scaled-times-requires
 scaled-times-requires c κs = (c .pre .0, rw (unit-is c, toZ-ofZ (unit-fits c)) (unit-within c))
 
-sub-rest : tie.Need-sub-rest
-sub-rest c = search needs
+sub-complement : tie.Need-sub-complement
+sub-complement c = search needs
 
 scaled-times-requires-2 : tie.Need-scaled-times-requires-2
 scaled-times-requires-2 c κs =
     let b = c .before .before in (
       record { divides = b .pre .0 .divides; proper = omega arith },
-      rw (first-is (c .before)) (times-within (b .args .m) _ (b .args .r) (b .args .s .d) (b .pre .0 .divides .atLeast) (b .pre .0 .proper) (unit-within b)),
+      rw (first-is (c .before)) (times-within (b .args .m) _ (b .args .r) (b .args .divisor .d) (b .pre .0 .divides .atLeast) (b .pre .0 .proper) (unit-within b)),
     )
 
 returns : tie.Need-returns
@@ -58,14 +58,14 @@ unfolding scaledK
 returns c =
     let b = c .before .before .before in
     result-is (c .scaled-times2 .result) (c .scaled-times2 .ok) ∙ c .scaled-times2 .ensures ∙
-    ap (λ z. scaledTimes (b .args .n) z (b .args .s .d - b .args .r) (b .args .s .d)) (first-is (c .before .before))
+    ap (λ z. scaledTimes (b .args .n) z (b .args .divisor .d - b .args .r) (b .args .divisor .d)) (first-is (c .before .before))
 
-pub y3-spec : {M : Type 1} → statement M
-y3-spec =
+pub scaled-k-spec : {M : Type 1} → statement M
+scaled-k-spec =
     tie.close
     (tie.spec
     mul-scaled-times
     scaled-times-requires
-    sub-rest
+    sub-complement
     scaled-times-requires-2
     returns)
