@@ -1,9 +1,8 @@
 -- Every number of a piece that a reel can hold fits in 64 bits: its half-sums, Y1 to Y3 and the trend's sum, its value and its total.
-use mathlib.Core.Path.{_≡_}
-use Prim.Native.Nat.{ℕ, _+_, _*_, _-_, _^_, _≤_}
+use Prim.Native.Nat.{ℕ, _*_, _-_, _^_, _≤_}
 use native.Mathlib.Omega.{arith}
 use lib.Dec.{lit≤}
-use lib.IntN.{ℤ, pos, negℤ, _+ℤ_, _-ℤ_, _*ℤ_}
+use lib.IntN.{pos, negℤ, _+ℤ_, _-ℤ_}
 use Rattle.integer.specs.Within.{Within}
 use Rattle.integer.proofs.Within.{within-natural, within-more, within-add, within-neg, within-mul}
 use Rattle.hermite.specs.Blend.{rightWeights}

@@ -1,27 +1,24 @@
 -- `piece::curve::trend` meets its contract: the arrays stand for the piece's weights, and Y1 − Y2 + Y3 fits.
 use borrow.Author.Needs.{needs}
 use mathlib.Core.Path.{_≡_, _∙_, ap, ap₂}
-use Prim.Native.Nat.{ℕ, _-_, _*_, _^_}
+use Prim.Native.Nat.{ℕ, _-_, _^_}
 use native.Mathlib.Omega.{arith}
-use lib.Dec.{lit<, lit≤}
-use lib.IntN.{ℤ, negℤ, one, _+ℤ_, _-ℤ_, *ℤ-one}
+use lib.Dec.{lit<}
+use lib.IntN.{ℤ, one, _+ℤ_, _-ℤ_, *ℤ-one}
 use mir.Syntax.{w64}
 use mir.Val.{SFits, toZ, ofZ}
 use mir.Facts.{toZ-ofZ}
 use Rattle.integer.specs.Within.{Within}
-use Rattle.integer.proofs.Within.{within-more, within-add, within-neg, within-fits}
-use Rattle.hermite.specs.Blend.{rightWeights}
-use Rattle.hermite.specs.HalfSum.{valueUnit}
+use Rattle.integer.proofs.Within.{within-fits}
 use Rattle.hermite.specs.Polynomial.{coefficient}
-use Rattle.hermite.specs.Slope.{sumK, K}
+use Rattle.hermite.specs.Slope.{K}
 use Rattle.rounding.specs.HalfSum.{lowerHalfSum}
 use Rattle.rounding.specs.Piece.{Piece, piece, m, n, p, q, D}
 use Rattle.rounding.specs.Scaling.{rounded, scaled}
-use Rattle.rounding.specs.Size.{sizeMax}
 use Rattle.rounding.specs.Trend.{Y1, Y2, Y3, scaledK, trend}
 use Rattle.rounding.proofs.Agree.{lowerHalfSum-agree, sumK-agree}
 use Rattle.rounding.proofs.Fits.{K-within, difference-within, slope-within}
-use Rattle.rounding.proofs.Bounds.{sized-within, right-sized, lower-within, sumK-within, scaledK-within}
+use Rattle.rounding.proofs.Bounds.{sized-within, right-sized}
 use Rattle.half_sum.proofs.Lists.{listed-weights}
 use Rattle.half_sum.proofs.Machine.{result-is}
 use Rattle.piece.proofs.curve.trend.Statement.{statement}

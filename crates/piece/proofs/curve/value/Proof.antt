@@ -1,15 +1,14 @@
 -- `piece::curve::value` meets its contract: the arrays stand for the piece's weights, and the two half-sums fit.
 use borrow.Author.Needs.{needs}
 use mathlib.Core.Path.{_≡_, _∙_, ap, ap₂}
-use Prim.Native.Nat.{_-_, _^_}
+use Prim.Native.Nat.{_-_}
 use native.Mathlib.Omega.{arith}
 use lib.Dec.{lit<, lit≤}
 use lib.IntN.{_+ℤ_}
 use mir.Syntax.{w64}
 use mir.Val.{SFits}
 use mir.Facts.{toZ-ofZ}
-use Rattle.integer.specs.Within.{Within}
-use Rattle.integer.proofs.Within.{within-add, within-fits}
+use Rattle.integer.proofs.Within.{within-fits}
 use Rattle.hermite.specs.Blend.{rightWeights}
 use Rattle.hermite.specs.Polynomial.{coefficient}
 use Rattle.rounding.specs.HalfSum.{halfSum}
@@ -17,7 +16,7 @@ use Rattle.rounding.specs.Piece.{Piece, piece, m, n, p, q, D}
 use Rattle.rounding.specs.Value.{value}
 use Rattle.rounding.proofs.Agree.{halfSum-agree}
 use Rattle.rounding.proofs.Fits.{value-within}
-use Rattle.rounding.proofs.Bounds.{sized-within, right-sized, half-within}
+use Rattle.rounding.proofs.Bounds.{sized-within, right-sized}
 use Rattle.half_sum.proofs.Lists.{more-weights, listed-weights}
 use Rattle.half_sum.proofs.Machine.{result-is}
 use Rattle.piece.proofs.curve.value.Statement.{statement}

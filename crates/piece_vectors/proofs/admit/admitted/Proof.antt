@@ -4,7 +4,6 @@ use borrow.Author.Tests.{not-false}
 use mathlib.Core.Path.{sym}
 use mathlib.Core.Bool.{true≢false}
 use native.Mathlib.Omega.{arith}
-use Rattle.rounding.specs.Size.{Admitted}
 use Rattle.piece_vectors.proofs.admit.admitted.Statement.{statement}
 use Rattle.piece_vectors.proofs.admit.admitted.Tie as tie
 

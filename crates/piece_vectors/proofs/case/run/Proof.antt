@@ -1,6 +1,5 @@
 -- `piece_vectors::case::run` is safe.
 use borrow.Author.Needs.{needs}
-use mathlib.Core.Path.{sym}
 use native.Mathlib.Omega.{arith}
 use lib.ListN.{length-take}
 use Rattle.piece_vectors.proofs.case.run.Statement.{statement}

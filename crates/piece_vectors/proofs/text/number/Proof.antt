@@ -14,10 +14,6 @@ use mir.Val.{SFits}
 use mir.Facts.{toZ-ofZ}
 use Rattle.piece_vectors.proofs.text.number.Statement.{statement}
 use Rattle.piece_vectors.proofs.text.number.Tie as tie
-use Rattle.piece_vectors.proofs.text.number.Reads as reads
-use Rattle.piece_vectors.proofs.text.number.Lts as lts
-use Rattle.io.proofs.print_decimal.Reads as print-decimal-reads
-use Rattle.io.proofs.write_all.Reads as write-all-reads
 
 not-below : (n : ℕ) → ltb n 0 ≡ true → ⊥
 not-below n e = omega (arith, ltb-true n 0 e)
