@@ -2,10 +2,10 @@
 ghost use mathlib.Core.Path.{_≡_};
 ghost use Prim.Native.Nat.{_*_, _≤_};
 ghost use Rattle.hermite.specs.Polynomial.{coefficient};
-ghost use Rattle.half_sum.specs.Divisor.{Fraction};
 ghost use Rattle.rounding.specs.HalfSum.{descended as HalfSum·descended, halfSum, lowerHalfSum};
-ghost use Rattle.half_sum.specs.Lists.{Weights};
 ghost use Rattle.rounding.specs.Size.{sizeMax};
+ghost use Rattle.half_sum.specs.Divisor.{Fraction};
+ghost use Rattle.half_sum.specs.Lists.{Weights};
 use super::knot_weights::primed;
 use super::scaling::Divisor;
 use super::scaling::scaled;
@@ -15,7 +15,7 @@ use super::sums::sums;
 // The parts of a count that values are in.
 pub const VALUE_UNIT: i64 = 65_536;
 
-// Step 2: u from m down to 0, over the sums g_i.
+// Step 2: u from m down to 0, over the sums g_i, each at most 6,435 times the greatest weight.
 fn descended(m: usize, a: u64, divisor: Divisor, g: &[i64]) -> i64
     requires { ⌜ (m ≤ 7) × (Fraction a divisor) × (Weights (6435 * (7 * sizeMax)) (now g)) ⌝ }
     ensures { λ r. ⌜ r ≡ HalfSum·descended (coefficient (now (g .entry))) a (divisor .d) m 0 ⌝ }

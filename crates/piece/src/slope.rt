@@ -26,7 +26,7 @@ pub fn sum_k(m: usize, n: usize, w: &[i64]) -> i64
     next as i64 * weighted(m, &table[from..], w)
 }
 
-// Y3: 65,536 × K, scaled by r/d m times, then by (d−r)/d n times.
+// Y3: 65,536 × K, scaled by r/d m times, then by (d−r)/d n times. Each sum of K is at most 91,520 times the greatest weight.
 pub fn scaled_k(m: usize, n: usize, r: u64, divisor: Divisor, k: i64) -> i64
     requires { ⌜ (Fraction r divisor) × (Within (2 * (91520 * sizeMax)) k) ⌝ }
     ensures { λ y. ⌜ y ≡ scaledK m n r (divisor .d) k ⌝ }

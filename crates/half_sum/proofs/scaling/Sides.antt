@@ -9,6 +9,7 @@ use lib.Dec.{T, ltb}
 use lib.IntN.{ℤ, pos, negsuc, natAbs, _+ℤ_, _-ℤ_, _*ℤ_}
 use lib.Signed.{ltZ, nonNeg}
 use Rattle.integer.specs.Within.{Within}
+use Rattle.integer.specs.Floor.{Floor}
 use Rattle.integer.proofs.Floor.{floor, one-floor}
 use Rattle.integer.proofs.Difference.{_⊖_, as-⊖, differences}
 use Rattle.rounding.specs.Scaling.{rounded, scaled}
@@ -34,7 +35,14 @@ negative-magnitude (negsuc n) e w = (tt, omega (arith, w .lo))
 pub negative-scaled : (u : ℤ) (a d : ℕ) → ltZ u (pos 0) ≡ true → a ≤ d → 0 < d → u +ℤ pos (natAbs (pos 0 -ℤ u) * (d - a) / d) ≡ scaled u a d
 unfolding scaled rounded
 negative-scaled (pos n) a d e h k = absurd (not-below n e)
-negative-scaled (negsuc n) a d e h k = rw zero-add (one-floor (record { rest = suc n * (d - a) % d; small = mod-lt (suc n * (d - a)) k; whole = whole (negsuc n) (suc n) (d - a) (suc n * (d - a) / d) (suc n * (d - a) % d) (as-⊖ (negsuc n)) (omega arith) (div-add-mod' (suc n * (d - a)) d) }) (floor (negsuc n *ℤ pos a) d k))
+negative-scaled (negsuc n) a d e h k =
+    let N = suc n * (d - a) in
+    let here : Floor (negsuc n *ℤ pos a) d (negsuc n +ℤ pos (N / d)) = record {
+      rest = N % d;
+      small = mod-lt N k;
+      whole = whole (negsuc n) (suc n) (d - a) (N / d) (N % d) (as-⊖ (negsuc n)) (omega arith) (div-add-mod' N d);
+    } in
+    rw zero-add (one-floor here (floor (negsuc n *ℤ pos a) d k))
   where
     whole : (u : ℤ) (N b q r : ℕ) → u ≡ 0 ⊖ N → d ≡ a + b → q * d + r ≡ N * b → u *ℤ pos a ≡ (u +ℤ pos q) *ℤ pos d +ℤ pos r
     whole u N b q r e f g = rw e (simp differences (omega (arith, g, ap (λ x. N * x) f)))

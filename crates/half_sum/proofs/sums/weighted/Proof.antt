@@ -70,8 +70,11 @@ loop-less c = omega arith
 loop-again : tie.Need-loop-again Inv-loop μ-loop
 loop-again c =
     let l = c .before .before .before in
-    let b = l .before .before .before in
-    (omega arith, rw (machine-sum (b .args .c .now) (b .args .w .now) (b .pre .2) (b .pre .3) _ (l .loop .j) (omega arith) (l .loop .inv .1)) (toZ-ofZ (sum-fits (b .args .c .now) (b .args .w .now) (b .pre .2) (b .pre .3) (l .loop .j + 1) (omega arith))))
+    let b = l .before .before .before in (
+      omega arith,
+      rw (machine-sum (b .args .c .now) (b .args .w .now) (b .pre .2) (b .pre .3) _ (l .loop .j) (omega arith) (l .loop .inv .1))
+          (toZ-ofZ (sum-fits (b .args .c .now) (b .args .w .now) (b .pre .2) (b .pre .3) (l .loop .j + 1) (omega arith))),
+    )
 
 returns : tie.Need-returns Inv-loop μ-loop
 returns c =

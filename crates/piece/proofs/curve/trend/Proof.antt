@@ -87,31 +87,34 @@ sum-k-requires-2 c κs =
     let b = c .before .before .before .before .before .before .before .before .before .before .before in
     (omega arith, omega arith, listed-weights (c .before .before .before .before .before .before .before .before .before .weights .ensures) (λ j. sized-within (b .args .h) (b .args .left .now) j (b .pre .0 .leftSize)))
 
--- where the function starts, the piece, and its divisor D
+-- where the function starts, the piece, the place r in it, and its divisor D
 abbrev start : tie.After-sum-k2 → tie.Start
 start c = c .before .before .before .before .before .before .before .before .before .before .before .before
 
 abbrev P : tie.After-sum-k2 → Piece
 P c = piece (start c .args .h) (start c .args .left .now) (start c .args .right .now)
 
+abbrev at : tie.After-sum-k2 → ℕ
+at c = start c .args .r
+
 D-is : (c : tie.After-sum-k2) → c .before .before .before .before .before .before .before .before .before .before .before .of .result .d ≡ D (P c)
 D-is c = c .before .before .before .before .before .before .before .before .before .before .before .of .ensures .0
 
 -- Y1, Y2 and K
 module _ (c : tie.After-sum-k2) where
-  y1-is : c .before .before .before .before .before .before .before .lower-half-sum .result ≡ Y1 (P c) (start c .args .r)
+  y1-is : c .before .before .before .before .before .before .before .lower-half-sum .result ≡ Y1 (P c) (at c)
   unfolding Y1
   y1-is =
       c .before .before .before .before .before .before .before .lower-half-sum .ensures ∙
-      ap (λ d. lowerHalfSum (m (P c)) (n (P c)) (start c .args .r) d (coefficient (c .before .before .before .before .before .before .before .before .before .before .weights .result))) (D-is c) ∙
-      lowerHalfSum-agree (m (P c)) (n (P c)) (start c .args .r) (D (P c)) (λ j h. c .before .before .before .before .before .before .before .before .before .before .weights .ensures .entry j (omega arith))
+      ap (λ d. lowerHalfSum (m (P c)) (n (P c)) (at c) d (coefficient (c .before .before .before .before .before .before .before .before .before .before .weights .result))) (D-is c) ∙
+      lowerHalfSum-agree (m (P c)) (n (P c)) (at c) (D (P c)) (λ j h. c .before .before .before .before .before .before .before .before .before .before .weights .ensures .entry j (omega arith))
 
-  y2-is : c .before .before .before .before .lower-half-sum2 .result ≡ Y2 (P c) (start c .args .r)
+  y2-is : c .before .before .before .before .lower-half-sum2 .result ≡ Y2 (P c) (at c)
   unfolding Y2
   y2-is =
       c .before .before .before .before .lower-half-sum2 .ensures ∙
-      ap (λ d. lowerHalfSum (n (P c)) (m (P c)) (d - start c .args .r) d (coefficient (c .before .before .before .before .before .before .before .before .before .right-weights .result))) (D-is c) ∙
-      lowerHalfSum-agree (n (P c)) (m (P c)) (D (P c) - start c .args .r) (D (P c)) (λ j h. c .before .before .before .before .before .before .before .before .before .right-weights .ensures .entry j (omega arith))
+      ap (λ d. lowerHalfSum (n (P c)) (m (P c)) (d - at c) d (coefficient (c .before .before .before .before .before .before .before .before .before .right-weights .result))) (D-is c) ∙
+      lowerHalfSum-agree (n (P c)) (m (P c)) (D (P c) - at c) (D (P c)) (λ j h. c .before .before .before .before .before .before .before .before .before .right-weights .ensures .entry j (omega arith))
 
   k-is : c .before .before .sum-k .result -ℤ c .sum-k2 .result ≡ K (m (P c)) (n (P c)) (p (P c)) (q (P c))
   unfolding K
@@ -128,13 +131,13 @@ module _ (c : tie.After-sum-k2) where
   k-fits = within-fits w64 _ (lit< tt) (K-within (P c) (start c .pre .0))
 
   machine-difference : toZ w64 (ofZ w64 (c .before .before .before .before .before .before .before .lower-half-sum .result)) -ℤ toZ w64 (ofZ w64 (c .before .before .before .before .lower-half-sum2 .result)) ≡
-      Y1 (P c) (start c .args .r) -ℤ Y2 (P c) (start c .args .r)
+      Y1 (P c) (at c) -ℤ Y2 (P c) (at c)
   machine-difference =
       ap₂ (λ x y. x -ℤ y) (result-is (c .before .before .before .before .before .before .before .lower-half-sum .result) (c .before .before .before .before .before .before .before .lower-half-sum .ok) ∙ y1-is)
       (result-is (c .before .before .before .before .lower-half-sum2 .result) (c .before .before .before .before .lower-half-sum2 .ok) ∙ y2-is)
 
-  difference-fits : SFits w64 (Y1 (P c) (start c .args .r) -ℤ Y2 (P c) (start c .args .r))
-  difference-fits = within-fits w64 _ (lit< tt) (difference-within (P c) (start c .pre .0) (start c .args .r) (start c .pre .1))
+  difference-fits : SFits w64 (Y1 (P c) (at c) -ℤ Y2 (P c) (at c))
+  difference-fits = within-fits w64 _ (lit< tt) (difference-within (P c) (start c .pre .0) (at c) (start c .pre .1))
 
 sub-k : tie.Need-sub-k
 sub-k c = rw (machine-k c) (k-fits c)
@@ -148,22 +151,25 @@ scaled-k-requires c κs =
     (record { divides = s .ensures .1; proper = omega (arith, s .ensures .0) }, rw (machine-k c, toZ-ofZ (k-fits c)) (K-within (P c) (start c .pre .0)))
 
 -- Y3, and Y1 − Y2 + Y3
+abbrev slope : tie.After-scaled-k → ℤ
+slope c = Y1 (P (c .before)) (at (c .before)) -ℤ Y2 (P (c .before)) (at (c .before)) +ℤ Y3 (P (c .before)) (at (c .before))
+
 module _ (c : tie.After-scaled-k) where
-  y3-is : c .scaled-k .result ≡ Y3 (P (c .before)) (start (c .before) .args .r)
+  y3-is : c .scaled-k .result ≡ Y3 (P (c .before)) (at (c .before))
   unfolding Y3
   y3-is =
       c .scaled-k .ensures ∙
-      ap₂ (λ d k. scaledK (m (P (c .before))) (n (P (c .before))) (start (c .before) .args .r) d k) (D-is (c .before))
+      ap₂ (λ d k. scaledK (m (P (c .before))) (n (P (c .before))) (at (c .before)) d k) (D-is (c .before))
       (ap (λ z. toZ w64 (ofZ w64 z)) (machine-k (c .before)) ∙ toZ-ofZ (k-fits (c .before)))
 
-  sum-within : Within (2 ^ 63 - 1) (Y1 (P (c .before)) (start (c .before) .args .r) -ℤ Y2 (P (c .before)) (start (c .before) .args .r) +ℤ Y3 (P (c .before)) (start (c .before) .args .r))
-  sum-within = slope-within (P (c .before)) (start (c .before) .pre .0) (start (c .before) .args .r) (start (c .before) .pre .1)
+  sum-within : Within (2 ^ 63 - 1) (slope c)
+  sum-within = slope-within (P (c .before)) (start (c .before) .pre .0) (at (c .before)) (start (c .before) .pre .1)
 
-  sum-fits : SFits w64 (Y1 (P (c .before)) (start (c .before) .args .r) -ℤ Y2 (P (c .before)) (start (c .before) .args .r) +ℤ Y3 (P (c .before)) (start (c .before) .args .r))
+  sum-fits : SFits w64 (slope c)
   sum-fits = within-fits w64 _ (lit< tt) sum-within
 
-  machine-sum : toZ w64 (ofZ w64 (toZ w64 (ofZ w64 (c .before .before .before .before .before .before .before .before .lower-half-sum .result)) -ℤ toZ w64 (ofZ w64 (c .before .before .before .before .before .lower-half-sum2 .result)))) +ℤ toZ w64 (ofZ w64 (c .scaled-k .result)) ≡
-      Y1 (P (c .before)) (start (c .before) .args .r) -ℤ Y2 (P (c .before)) (start (c .before) .args .r) +ℤ Y3 (P (c .before)) (start (c .before) .args .r)
+  machine-sum : let l = c .before .before .before .before .before in
+      toZ w64 (ofZ w64 (toZ w64 (ofZ w64 (l .before .before .before .lower-half-sum .result)) -ℤ toZ w64 (ofZ w64 (l .lower-half-sum2 .result)))) +ℤ toZ w64 (ofZ w64 (c .scaled-k .result)) ≡ slope c
   machine-sum = ap₂ (λ x y. x +ℤ y) (ap (λ z. toZ w64 (ofZ w64 z)) (machine-difference (c .before)) ∙ toZ-ofZ (difference-fits (c .before))) (result-is (c .scaled-k .result) (c .scaled-k .ok) ∙ y3-is)
 
 add-scaled : tie.Need-add-scaled

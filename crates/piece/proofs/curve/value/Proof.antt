@@ -1,7 +1,7 @@
 -- `piece::curve::value` meets its contract: the arrays stand for the piece's weights, and the two half-sums fit.
 use borrow.Author.Needs.{needs}
 use mathlib.Core.Path.{_≡_, _∙_, ap, ap₂}
-use Prim.Native.Nat.{_-_}
+use Prim.Native.Nat.{ℕ, _-_}
 use native.Mathlib.Omega.{arith}
 use lib.Dec.{lit<, lit≤}
 use lib.IntN.{_+ℤ_}
@@ -69,36 +69,39 @@ half-sum-requires-2 c κs =
       more-weights (lit≤ tt) (listed-weights (c .before .before .before .before .right-weights .ensures) (λ j. right-sized (b .args .h) (b .args .right .now) j (b .pre .0 .rightSize))),
     )
 
--- where the function starts, the piece, and its divisor D
+-- where the function starts, the piece, the place r in it, and its divisor D
 abbrev start : tie.After-half-sum2 → tie.Start
 start c = c .before .before .before .before .before .before .before .before
 
 abbrev P : tie.After-half-sum2 → Piece
 P c = piece (start c .args .h) (start c .args .left .now) (start c .args .right .now)
 
+abbrev at : tie.After-half-sum2 → ℕ
+at c = start c .args .r
+
 D-is : (c : tie.After-half-sum2) → c .before .before .before .before .before .before .before .of .result .d ≡ D (P c)
 D-is c = c .before .before .before .before .before .before .before .of .ensures .0
 
 -- the two half-sums
 module _ (c : tie.After-half-sum2) where
-  left-is : c .before .before .before .half-sum .result ≡ halfSum (m (P c)) (n (P c)) (start c .args .r) (D (P c)) (p (P c))
+  left-is : c .before .before .before .half-sum .result ≡ halfSum (m (P c)) (n (P c)) (at c) (D (P c)) (p (P c))
   left-is =
       c .before .before .before .half-sum .ensures ∙
-      ap (λ d. halfSum (m (P c)) (n (P c)) (start c .args .r) d (coefficient (c .before .before .before .before .before .before .weights .result))) (D-is c) ∙
-      halfSum-agree (m (P c)) (n (P c)) (start c .args .r) (D (P c)) (λ j h. c .before .before .before .before .before .before .weights .ensures .entry j (omega arith))
+      ap (λ d. halfSum (m (P c)) (n (P c)) (at c) d (coefficient (c .before .before .before .before .before .before .weights .result))) (D-is c) ∙
+      halfSum-agree (m (P c)) (n (P c)) (at c) (D (P c)) (λ j h. c .before .before .before .before .before .before .weights .ensures .entry j (omega arith))
 
-  right-is : c .half-sum2 .result ≡ halfSum (n (P c)) (m (P c)) (D (P c) - start c .args .r) (D (P c)) (rightWeights (q (P c)))
+  right-is : c .half-sum2 .result ≡ halfSum (n (P c)) (m (P c)) (D (P c) - at c) (D (P c)) (rightWeights (q (P c)))
   right-is =
       c .half-sum2 .ensures ∙
-      ap (λ d. halfSum (n (P c)) (m (P c)) (d - start c .args .r) d (coefficient (c .before .before .before .before .before .right-weights .result))) (D-is c) ∙
-      halfSum-agree (n (P c)) (m (P c)) (D (P c) - start c .args .r) (D (P c)) (λ j h. c .before .before .before .before .before .right-weights .ensures .entry j (omega arith))
+      ap (λ d. halfSum (n (P c)) (m (P c)) (d - at c) d (coefficient (c .before .before .before .before .before .right-weights .result))) (D-is c) ∙
+      halfSum-agree (n (P c)) (m (P c)) (D (P c) - at c) (D (P c)) (λ j h. c .before .before .before .before .before .right-weights .ensures .entry j (omega arith))
 
-  sum-is : c .before .before .before .half-sum .result +ℤ c .half-sum2 .result ≡ value (P c) (start c .args .r)
+  sum-is : c .before .before .before .half-sum .result +ℤ c .half-sum2 .result ≡ value (P c) (at c)
   unfolding value
   sum-is = ap₂ (λ x y. x +ℤ y) left-is right-is
 
   sum-fits : SFits w64 (c .before .before .before .half-sum .result +ℤ c .half-sum2 .result)
-  sum-fits = rw sum-is (within-fits w64 _ (lit< tt) (value-within (P c) (start c .pre .0) (start c .args .r) (start c .pre .1)))
+  sum-fits = rw sum-is (within-fits w64 _ (lit< tt) (value-within (P c) (start c .pre .0) (at c) (start c .pre .1)))
 
 add-result : tie.Need-add-result
 add-result c =
