@@ -1,4 +1,4 @@
--- The table of binomials: its rows are what they should be, by one computed test, and so the sums that it gives are g_i.
+-- The table of binomials: its rows are what they should be, by a computed test of the whole table, and so the sums that it gives are g_i.
 use mathlib.Core.Path.{_≡_, refl, _∙_, ap}
 use mathlib.Core.List.{List}
 use Prim.Native.Nat.{ℕ, _+_, _*_, _-_, _/_, _%_, _≤_}

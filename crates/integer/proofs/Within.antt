@@ -5,7 +5,7 @@ use Prim.Native.Nat.{ℕ, zero, suc, _+_, _*_, _^_, _≤_, _<_, min}
 use native.Mathlib.Nat.{mul-le-mul, mul-le-mul-right}
 use native.Mathlib.Omega.{arith}
 use lib.Dec.{lit<, lit≤}
-use lib.IntN.{ℤ, pos, negsuc, negℤ, _+ℤ_, _*ℤ_}
+use lib.IntN.{ℤ, pos, negsuc, negℤ, _+ℤ_, _-ℤ_, _*ℤ_, +ℤ-idl}
 use mir.Syntax.{Width, w64}
 use mir.Val.{SFits, hbits}
 use Rattle.integer.specs.Sum.{sum}
@@ -33,6 +33,10 @@ pub within-neg : {B : ℕ} (z : ℤ) → Within B z → Within B (negℤ z)
 within-neg (pos zero) w = w
 within-neg (pos (suc n)) w = record { hi = omega arith; lo = w .hi }
 within-neg (negsuc n) w = record { hi = w .lo; lo = omega arith }
+
+-- as a program writes it
+pub within-opposite : {B : ℕ} (z : ℤ) → Within B z → Within B (pos 0 -ℤ z)
+within-opposite z w = rw (+ℤ-idl (negℤ z)) (within-neg z w)
 
 within-product : {A B : ℕ} (a b : ℕ) → a ≤ A → b ≤ B → Within (A * B) (pos (a * b))
 within-product a b h k = record { hi = mul-le-mul h k; lo = omega arith }

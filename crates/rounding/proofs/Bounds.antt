@@ -22,7 +22,7 @@ use Rattle.rounding.specs.Size.{Sized, sizeMax}
 use Rattle.rounding.specs.Trend.{scaledK}
 
 -- rounding down does not enlarge
-pub rounded-within : {B : ℕ} (z : ℤ) (d : ℕ) → 0 < d → Within (B * d) z → Within B (rounded z d)
+rounded-within : {B : ℕ} (z : ℤ) (d : ℕ) → 0 < d → Within (B * d) z → Within B (rounded z d)
 unfolding rounded
 rounded-within {B} (pos x) d h w = record { hi = div-le-of-le-mul d (omega (arith, w .hi)); lo = omega arith }
 rounded-within {B} (negsuc x) d h w = record { hi = omega arith; lo = div-lt-iff-lt-mul h .1 (w .lo) }
@@ -77,7 +77,7 @@ pub g-within : (B n i : ℕ) (w : ℕ → ℤ) → n ≤ 7 → i ≤ 7 → ((j :
 g-within B n i w hn hi = sums-within B 6435 n i w (most-7 n hn i hi)
 
 -- u of step 2, after k rounds of the sums G_i
-pub descended-within : (Γ : ℕ) (G : ℕ → ℤ) (a d k i : ℕ) → 0 < d → a ≤ d → ((j : ℕ) → j ≤ i + k → Within Γ (G j)) → Within ((k + 1) * (valueUnit * Γ)) (descended G a d k i)
+descended-within : (Γ : ℕ) (G : ℕ → ℤ) (a d k i : ℕ) → 0 < d → a ≤ d → ((j : ℕ) → j ≤ i + k → Within Γ (G j)) → Within ((k + 1) * (valueUnit * Γ)) (descended G a d k i)
 unfolding descended
 descended-within Γ G a d zero i h b small = within-more (omega arith) (within-mul (pos valueUnit) (G i) (within-natural valueUnit) (small i (omega arith)))
 descended-within Γ G a d (suc k) i h b small =
@@ -85,6 +85,12 @@ descended-within Γ G a d (suc k) i h b small =
     (within-add (scaled (descended G a d k (suc i)) a d) (pos valueUnit *ℤ G i)
     (scaled-within (descended G a d k (suc i)) a d h b (descended-within Γ G a d k (suc i) h b (λ j l. small j (omega arith))))
     (within-mul (pos valueUnit) (G i) (within-natural valueUnit) (small i (omega arith))))
+
+-- on w' of weights that keep the size rule, of order up to 7, it fits at every round
+pub descended-fits : (G : ℕ → ℤ) (a d k i : ℕ) → 0 < d → a ≤ d → i + k ≤ 7 → ((j : ℕ) → j ≤ 7 → Within (6435 * (7 * sizeMax)) (G j)) → Within (2 ^ 63 - 1) (descended G a d k i)
+descended-fits G a d k i h b l small =
+    let rounds : k + 1 ≤ 8 = omega arith in
+    within-more (le-trans (mul-le-mul-right (valueUnit * (6435 * (7 * sizeMax))) rounds) (lit≤ tt)) (descended-within (6435 * (7 * sizeMax)) G a d k i h b (λ j e. small j (omega arith)))
 
 halfSum-within : (Γ m n a d : ℕ) (w : ℕ → ℤ) → 0 < d → a ≤ d → ((i : ℕ) → i ≤ m → Within Γ (g n w i)) → Within ((m + 1) * (valueUnit * Γ)) (halfSum m n a d w)
 unfolding halfSum

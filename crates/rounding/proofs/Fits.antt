@@ -44,10 +44,10 @@ module _ (P : Piece) (admitted : Admitted P) where
 
   module _ (r : ℕ) (within : r ≤ D P) where
     -- the two half-sums of a value
-    pub left-within : Within (2 ^ 61) (halfSum (m P) (n P) r (D P) (p P))
+    left-within : Within (2 ^ 61) (halfSum (m P) (n P) r (D P) (p P))
     left-within = half-within (m P) (n P) r (D P) (p P) (omega arith) (omega arith) (omega arith) (omega arith) (λ j h. left-weight j)
 
-    pub right-within : Within (2 ^ 61) (halfSum (n P) (m P) (D P - r) (D P) (rightWeights (q P)))
+    right-within : Within (2 ^ 61) (halfSum (n P) (m P) (D P - r) (D P) (rightWeights (q P)))
     right-within = half-within (n P) (m P) (D P - r) (D P) (rightWeights (q P)) (omega arith) (omega arith) (omega arith) (omega arith) (λ j h. right-weight j)
 
     pub value-within : Within (2 ^ 62) (value P r)

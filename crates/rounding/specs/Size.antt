@@ -10,7 +10,7 @@ use Rattle.rounding.specs.Piece.{Piece, weight}
 abbrev pub sizeMax : ℕ
 sizeMax = 268435456
 
--- each |C_j| × h^j is at most 2^28
+-- each |C_j| × h^j is at most 2^28 (past the list it is 0)
 unfoldable pub Sized : ℕ → List ℤ → Type 0
 Sized h C = (j : ℕ) → Within sizeMax (weight h C j)
 

@@ -9,7 +9,7 @@ use mir.Syntax.{w64}
 use mir.Val.{SFits, toZ, ofZ}
 use mir.Facts.{toZ-ofZ}
 use Rattle.hermite.specs.Binomial.{sign as Binomial·sign}
-use Rattle.integer.proofs.Within.{within-neg, within-mul, within-fits}
+use Rattle.integer.proofs.Within.{within-opposite, within-mul, within-fits}
 use Rattle.hermite.specs.Blend.{rightWeights}
 use Rattle.hermite.specs.Polynomial.{coefficient}
 use Rattle.rounding.proofs.Bounds.{sign-within}
@@ -34,7 +34,7 @@ array-copy-out-w : tie.Need-array-copy-out-w Inv-loop μ-loop
 array-copy-out-w c = omega arith
 
 opposite-fits : (j : ℕ) → SFits w64 (pos 0 -ℤ Binomial·sign j)
-opposite-fits j = rw (+ℤ-idl (negℤ (Binomial·sign j))) (within-fits w64 (negℤ (Binomial·sign j)) (lit< tt) (within-neg (Binomial·sign j) (sign-within j)))
+opposite-fits j = within-fits w64 (pos 0 -ℤ Binomial·sign j) (lit< tt) (within-opposite (Binomial·sign j) (sign-within j))
 
 module _ (c : tie.After-w Inv-loop μ-loop) where
   held : let l = c .before .before in coefficient (l .loop .w) (l .loop .j) ≡ coefficient (l .before .args .q) (l .loop .j)

@@ -20,11 +20,11 @@ module _ (u a : ℕ) (s : Divisor) (known : Fraction a s) where
   rest-small : u % s .d * a ≤ 4095 * 4096
   rest-small = mul-le-mul {n₂ = 4095} {m₂ = 4096} (omega (arith, below-divisor)) (omega arith)
 
-  inverse-small : s .reciprocal ≤ 2 ^ 36 + 1
-  inverse-small = omega (arith, known .divides .reciprocal, div-le-self (2 ^ 36) (s .d))
+  reciprocal-small : s .reciprocal ≤ 2 ^ 36 + 1
+  reciprocal-small = omega (arith, known .divides .reciprocal, div-le-self (2 ^ 36) (s .d))
 
   product-fits : Fits w64 (u % s .d * a * s .reciprocal)
-  product-fits = fits-le (mul-le-mul rest-small inverse-small) (fits-lit tt)
+  product-fits = fits-le (mul-le-mul rest-small reciprocal-small) (fits-lit tt)
 
   whole : u / s .d * a + u % s .d * a * s .reciprocal / 2 ^ 36 ≡ u * a / s .d
   whole =

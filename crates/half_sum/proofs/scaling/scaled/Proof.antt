@@ -4,12 +4,12 @@ use mathlib.Core.Path.{_≡_}
 use Prim.Native.Nat.{ℕ, _*_, _-_, _/_, _^_, _≤_}
 use native.Mathlib.Omega.{arith}
 use lib.Dec.{lit<}
-use lib.IntN.{ℤ, pos, natAbs, negℤ, _+ℤ_, _-ℤ_}
+use lib.IntN.{ℤ, pos, natAbs, _+ℤ_, _-ℤ_}
 use mir.Syntax.{w64}
 use mir.Val.{SFits}
 use mir.Facts.{toZ-ofZ, toZ-pos, fits-le, fits-lit}
 use Rattle.integer.specs.Within.{Within}
-use Rattle.integer.proofs.Within.{within-natural, within-add, within-neg, within-fits}
+use Rattle.integer.proofs.Within.{within-opposite, within-fits}
 use Rattle.rounding.specs.Scaling.{scaled}
 use Rattle.rounding.proofs.Bounds.{scaled-within}
 use Rattle.half_sum.proofs.scaling.Parts.{part-below}
@@ -18,7 +18,7 @@ use Rattle.half_sum.proofs.scaling.scaled.Statement.{statement}
 use Rattle.half_sum.proofs.scaling.scaled.Tie as tie
 
 opposite-fits : (u : ℤ) → Within (2 ^ 63 - 1) u → SFits w64 (pos 0 -ℤ u)
-opposite-fits u w = within-fits w64 (pos 0 -ℤ u) (lit< tt) (within-add (pos 0) (negℤ u) (within-natural 0) (within-neg u w))
+opposite-fits u w = within-fits w64 (pos 0 -ℤ u) (lit< tt) (within-opposite u w)
 
 sub-complement : tie.Need-sub-complement
 sub-complement c = search needs

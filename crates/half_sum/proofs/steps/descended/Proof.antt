@@ -1,21 +1,19 @@
 -- `half_sum::steps::descended` meets its contract. At i, u is that of step 2 after m − i rounds.
 use mathlib.Core.Path.{_≡_, _∙_, ap}
-use Prim.Native.Nat.{ℕ, suc, _+_, _-_, _*_, _^_, _≤_}
-use native.Mathlib.Nat.{le-trans, mul-le-mul-right}
+use Prim.Native.Nat.{ℕ, suc, _+_, _-_, _^_, _≤_}
 use native.Mathlib.Omega.{arith}
-use lib.Dec.{lit<, lit≤}
+use lib.Dec.{lit<}
 use lib.IntN.{pos, _+ℤ_, _*ℤ_}
 use mir.Syntax.{w64}
 use mir.Val.{SFits, toZ, ofZ}
 use mir.Facts.{toZ-ofZ}
 use Rattle.integer.specs.Within.{Within}
-use Rattle.integer.proofs.Within.{within-natural, within-more, within-mul, within-fits}
+use Rattle.integer.proofs.Within.{within-natural, within-mul, within-fits}
 use Rattle.hermite.specs.HalfSum.{valueUnit}
 use Rattle.hermite.specs.Polynomial.{coefficient}
 use Rattle.rounding.specs.HalfSum.{descended}
 use Rattle.rounding.specs.Scaling.{scaled}
-use Rattle.rounding.specs.Size.{sizeMax}
-use Rattle.rounding.proofs.Bounds.{descended-within}
+use Rattle.rounding.proofs.Bounds.{descended-fits}
 use Rattle.half_sum.proofs.Machine.{result-is}
 use Rattle.half_sum.proofs.steps.descended.Statement.{statement}
 use Rattle.half_sum.proofs.steps.descended.Tie as tie
@@ -34,10 +32,7 @@ module _ (b : tie.Start Inv-loop μ-loop) where
   unit-fits j h = within-fits w64 _ (lit< tt) (within-mul (pos valueUnit) (coefficient (b .args .g .now) j) (within-natural valueUnit) (b .pre .2 .small j h))
 
   u-within : (k i : ℕ) → i + k ≤ 7 → Within (2 ^ 63 - 1) (descended (coefficient (b .args .g .now)) (b .args .a) (b .args .divisor .d) k i)
-  u-within k i h =
-      let rounds : k + 1 ≤ 8 = omega arith in
-      within-more (le-trans (mul-le-mul-right (valueUnit * (6435 * (7 * sizeMax))) rounds) (lit≤ tt))
-      (descended-within (6435 * (7 * sizeMax)) (coefficient (b .args .g .now)) (b .args .a) (b .args .divisor .d) k i (b .pre .1 .divides .atLeast) (b .pre .1 .proper) (λ j l. b .pre .2 .small j (omega arith)))
+  u-within k i h = descended-fits (coefficient (b .args .g .now)) (b .args .a) (b .args .divisor .d) k i (b .pre .1 .divides .atLeast) (b .pre .1 .proper) h (b .pre .2 .small)
 
   u-fits : (k i : ℕ) → i + k ≤ 7 → SFits w64 (descended (coefficient (b .args .g .now)) (b .args .a) (b .args .divisor .d) k i)
   u-fits k i h = within-fits w64 _ (lit< tt) (u-within k i h)

@@ -1,19 +1,16 @@
 -- `half_sum::steps::half_sum` meets its contract: the array of step 1 stands for the sums g_i, to order 7.
 use borrow.Author.Needs.{needs}
 use mathlib.Core.Path.{_≡_, _∙_, ap}
-use Prim.Native.Nat.{_+_, _-_, _*_, _^_, _≤_}
-use native.Mathlib.Nat.{le-trans, mul-le-mul-right}
+use Prim.Native.Nat.{_+_, _-_, _*_, _^_}
 use native.Mathlib.Omega.{arith}
-use lib.Dec.{lit≤}
 use Rattle.integer.specs.Within.{Within}
-use Rattle.integer.proofs.Within.{within-more}
-use Rattle.hermite.specs.HalfSum.{valueUnit, g}
+use Rattle.hermite.specs.HalfSum.{g}
 use Rattle.hermite.specs.Polynomial.{coefficient}
 use Rattle.rounding.specs.HalfSum.{descended, halfSum}
 use Rattle.rounding.specs.Scaling.{scaledTimes}
 use Rattle.rounding.specs.Size.{sizeMax}
 use Rattle.rounding.proofs.Agree.{descended-agree}
-use Rattle.rounding.proofs.Bounds.{g-within, descended-within}
+use Rattle.rounding.proofs.Bounds.{g-within, descended-fits}
 use Rattle.half_sum.proofs.Machine.{result-is}
 use Rattle.half_sum.proofs.steps.half_sum.Statement.{statement}
 use Rattle.half_sum.proofs.steps.half_sum.Tie as tie
@@ -45,11 +42,9 @@ module _ (c : tie.After-descended) where
   u-within : Within (2 ^ 63 - 1) (c .descended .result)
   u-within =
       let b = c .before .before .before in
-      let rounds : b .args .m + 1 ≤ 8 = omega arith in
       rw u-is
-      (within-more (le-trans (mul-le-mul-right (valueUnit * (6435 * (7 * sizeMax))) rounds) (lit≤ tt))
-      (descended-within (6435 * (7 * sizeMax)) _ (b .args .a) (b .args .divisor .d) (b .args .m) 0 (b .pre .2 .divides .atLeast) (b .pre .2 .proper)
-      (λ j h. g-within (7 * sizeMax) (b .args .n) j (coefficient (b .args .w .now)) (b .pre .1) (omega arith) (λ i k. b .pre .3 .small i (omega arith)))))
+      (descended-fits _ (b .args .a) (b .args .divisor .d) (b .args .m) 0 (b .pre .2 .divides .atLeast) (b .pre .2 .proper) (omega arith)
+      (λ j h. g-within (7 * sizeMax) (b .args .n) j (coefficient (b .args .w .now)) (b .pre .1) h (λ i k. b .pre .3 .small i (omega arith))))
 
 sub-complement : tie.Need-sub-complement
 sub-complement c = search needs

@@ -68,8 +68,7 @@ loop-less c = omega arith
 loop-again : tie.Need-loop-again Inv-loop μ-loop
 unfolding binomial
 loop-again c =
-    let l = c .before .before .before in
-    let from = 8 * l .before .before .args .n + 7 - l .loop .i in (
+    let l = c .before .before .before in (
       omega arith,
       filled-more _ (l .loop .inv .1) (omega arith)
           (result-is (c .weighted .result) (c .weighted .ok) ∙ c .weighted .ensures ∙

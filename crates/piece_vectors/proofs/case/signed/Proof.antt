@@ -3,10 +3,10 @@ use borrow.Author.Needs.{needs}
 use Prim.Native.Nat.{_-_, _^_}
 use native.Mathlib.Omega.{arith}
 use lib.Dec.{lit<}
-use lib.IntN.{pos, negℤ, _-ℤ_}
+use lib.IntN.{pos, _-ℤ_}
 use mir.Syntax.{w32}
 use mir.Facts.{toZ-pos}
-use Rattle.integer.proofs.Within.{within-natural, within-more, within-add, within-neg, within-fits}
+use Rattle.integer.proofs.Within.{within-natural, within-more, within-opposite, within-fits}
 use Rattle.piece_vectors.proofs.case.signed.Statement.{statement}
 use Rattle.piece_vectors.proofs.case.signed.Tie as tie
 
@@ -20,7 +20,7 @@ sub-result : tie.Need-sub-result
 sub-result c =
     let x = c .before .args .word - 2147483648 in
     rw (toZ-pos w32 {n = x} (omega arith))
-    (within-fits w32 (pos 0 -ℤ pos x) (lit< tt) (within-add (pos 0) (negℤ (pos x)) (within-natural 0) (within-neg (pos x) (within-more {B = 2 ^ 31 - 1} (omega arith) (within-natural x)))))
+    (within-fits w32 (pos 0 -ℤ pos x) (lit< tt) (within-opposite (pos x) (within-more {B = 2 ^ 31 - 1} (omega arith) (within-natural x))))
 
 returns : tie.Need-returns
 returns c = search needs
