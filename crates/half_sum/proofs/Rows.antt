@@ -1,9 +1,9 @@
 -- The table of binomials: its rows are what they should be, by a computed test of the whole table, and so the sums that it gives are g_i.
+use mathlib.Core.Bool.{true}
 use mathlib.Core.Path.{_≡_, refl, _∙_, ap}
 use mathlib.Core.List.{List}
 use Prim.Native.Nat.{ℕ, _+_, _*_, _-_, _/_, _%_, _≤_}
 use native.Mathlib.Omega.{arith}
-use lib.Dec.{T}
 use lib.IntN.{ℤ, pos, _*ℤ_}
 use lib.ListN.{getD, take, drop, length}
 use Rattle.integer.specs.Sum.{sum}
@@ -18,7 +18,7 @@ use Rattle.half_sum.proofs.Tables.{entries-are, entry-is, part-entry}
 abbrev pub binomial-at : ℕ → ℕ
 binomial-at x = let k = 7 - x % 8 in binomial (x / 8 + k) k
 
-module _ (t : List ℕ) (right : T (entries-are binomial-at 0 t)) (all : length t ≡ 72) where
+module _ (t : List ℕ) (right : entries-are binomial-at 0 t ≡ true) (all : length t ≡ 72) where
   entry : (n k : ℕ) → n ≤ 8 → k ≤ 7 → getD t (8 * n + 7 - k) 0 ≡ binomial (n + k) k
   entry n k hn hk =
       let a : (8 * n + 7 - k) / 8 ≡ n = omega arith in

@@ -1,4 +1,5 @@
 -- Constant tables and parts of them.
+use borrow.Author.Tests.{eqb-true, leb-true}
 use mathlib.Core.Path.{_≡_, sym, _∙_, ap}
 use mathlib.Core.Bool.{Bool, true, _&&_}
 use mathlib.Core.List.{List, [], _∷_}
@@ -6,10 +7,10 @@ use Prim.Native.Nat.{ℕ, zero, suc, _+_, _≤_, _<_}
 use native.Mathlib.Nat.{add-zero, zero-add, le-of-suc-le-suc}
 use native.Mathlib.Decide.{decLt}
 use native.Mathlib.Omega.{arith}
-use lib.Dec.{T, eqb, eqb→eq, leb, leb→le}
+use lib.Dec.{eqb, leb}
 use lib.ListN.{getD, take, drop, length, length-take, List·getD-eq-default}
 use lib.Seq.{getD-take, getD-drop}
-use Rattle.integer.proofs.Claim.{first, second}
+use Rattle.integer.proofs.Tests.{both-first, both-second}
 use Rattle.hermite.specs.Water.{waterUnit}
 use Rattle.half_sum.specs.Lists.{Entries}
 
@@ -21,12 +22,12 @@ abbrev pub entries-are : (ℕ → ℕ) → ℕ → List ℕ → Bool
 entries-are f i [] = true
 entries-are f i (x ∷ t) = eqb x (f i) && entries-are f (suc i) t
 
-entry-from : (f : ℕ → ℕ) (i : ℕ) (t : List ℕ) → T (entries-are f i t) → (j : ℕ) → j < length t → getD t j 0 ≡ f (i + j)
+entry-from : (f : ℕ → ℕ) (i : ℕ) (t : List ℕ) → entries-are f i t ≡ true → (j : ℕ) → j < length t → getD t j 0 ≡ f (i + j)
 entry-from f i [] h j b = absurd (omega arith)
-entry-from f i (x ∷ t) h zero b = eqb→eq x (f i) (first (eqb x (f i)) (entries-are f (suc i) t) h) ∙ ap f (sym (add-zero i))
-entry-from f i (x ∷ t) h (suc j) b = entry-from f (suc i) t (second (eqb x (f i)) (entries-are f (suc i) t) h) j (le-of-suc-le-suc b) ∙ ap f (omega arith)
+entry-from f i (x ∷ t) h zero b = eqb-true x (f i) (both-first (eqb x (f i)) (entries-are f (suc i) t) h) ∙ ap f (sym (add-zero i))
+entry-from f i (x ∷ t) h (suc j) b = entry-from f (suc i) t (both-second (eqb x (f i)) (entries-are f (suc i) t) h) j (le-of-suc-le-suc b) ∙ ap f (omega arith)
 
-pub entry-is : (f : ℕ → ℕ) (t : List ℕ) → T (entries-are f 0 t) → (j : ℕ) → j < length t → getD t j 0 ≡ f j
+pub entry-is : (f : ℕ → ℕ) (t : List ℕ) → entries-are f 0 t ≡ true → (j : ℕ) → j < length t → getD t j 0 ≡ f j
 entry-is f t h j b = entry-from f 0 t h j b ∙ ap f (zero-add j)
 
 -- each entry is at most 720,720
@@ -34,12 +35,12 @@ abbrev pub all-small : List ℕ → Bool
 all-small [] = true
 all-small (x ∷ t) = leb x waterUnit && all-small t
 
-small : (t : List ℕ) → T (all-small t) → (j : ℕ) → getD t j 0 ≤ waterUnit
+small : (t : List ℕ) → all-small t ≡ true → (j : ℕ) → getD t j 0 ≤ waterUnit
 small [] h j = omega arith
-small (x ∷ t) h zero = leb→le x waterUnit (first (leb x waterUnit) (all-small t) h)
-small (x ∷ t) h (suc j) = small t (second (leb x waterUnit) (all-small t) h) j
+small (x ∷ t) h zero = leb-true x waterUnit (both-first (leb x waterUnit) (all-small t) h)
+small (x ∷ t) h (suc j) = small t (both-second (leb x waterUnit) (all-small t) h) j
 
-pub part-entries : (t : List ℕ) (k from : ℕ) → T (all-small t) → Entries (take k (drop from t))
+pub part-entries : (t : List ℕ) (k from : ℕ) → all-small t ≡ true → Entries (take k (drop from t))
 part-entries t k from h = record { small = λ j. go j (decLt j k) }
   where
     go : (j : ℕ) → Dec (j < k) → getD (take k (drop from t)) j 0 ≤ waterUnit

@@ -1,5 +1,5 @@
 -- What each base comes to, multiplied out for all grades 0 to 7: the facts about formula (1) that are decided by computing.
-use mathlib.Core.Path.{_≡_}
+use mathlib.Core.Path.{_≡_, refl}
 use mathlib.Core.Bool.{cond}
 use Prim.Native.Nat.{ℕ, _+_, _≤_}
 use lib.Dec.{eqb}
@@ -51,12 +51,12 @@ named m n b l e f h = record { left = h .0; right = h .1 .0; water = h .1 .1 .0;
 all-left : (m : ℕ) → m ≤ 7 → (n : ℕ) → n ≤ 7 → (j : ℕ) → j ≤ m → Holds (claim m n (base s 1-s m n j) (loweredBase s 1-s m n j) (s ↑ m ⊗ 1-s ↑ n) (ofLeft m n j))
 unfolding taylorLeft taylorRight integral c derivative counted kappa loweredBase dot ofOrder sumₚ _⊕_ _⊙_ _⊗_ _↑_ binomial
 all-left = sound (upto 7 (λ m. upto 7 (λ n. let e = s ↑ m ⊗ 1-s ↑ n in upto m (λ j.
-    let b = base s 1-s m n j in let l = loweredBase s 1-s m n j in claim m n b l e (ofLeft m n j))))) tt
+    let b = base s 1-s m n j in let l = loweredBase s 1-s m n j in claim m n b l e (ofLeft m n j))))) refl
 
 all-right : (m : ℕ) → m ≤ 7 → (n : ℕ) → n ≤ 7 → (j : ℕ) → j ≤ n → Holds (claim m n (base 1-s s n m j) (loweredBase 1-s s n m j) (s ↑ m ⊗ 1-s ↑ n) (ofRight m n j))
 unfolding taylorLeft taylorRight integral c derivative counted kappa loweredBase dot ofOrder sumₚ _⊕_ _⊙_ _⊗_ _↑_ binomial sign
 all-right = sound (upto 7 (λ m. upto 7 (λ n. let e = s ↑ m ⊗ 1-s ↑ n in upto n (λ j.
-    let b = base 1-s s n m j in let l = loweredBase 1-s s n m j in claim m n b l e (ofRight m n j))))) tt
+    let b = base 1-s s n m j in let l = loweredBase 1-s s n m j in claim m n b l e (ofRight m n j))))) refl
 
 module _ (m n : ℕ) (hm : m ≤ 7) (hn : n ≤ 7) (j : ℕ) where
   pub left-base : j ≤ m → Base m n (base s 1-s m n j) (loweredBase s 1-s m n j) (s ↑ m ⊗ 1-s ↑ n) (ofLeft m n j)

@@ -1,5 +1,5 @@
 -- Document 01, "Water": the integral weights give the exact integral, for all grades 0 to 7 and all weights, and nothing in them is rounded.
-use mathlib.Core.Path.{_≡_, _∙_, ap, ap₂}
+use mathlib.Core.Path.{_≡_, refl, _∙_, ap, ap₂}
 use Prim.Native.Nat.{ℕ, zero, suc, _+_, _*_, _-_, _/_, _≤_, _<_}
 use native.Mathlib.Decide.{ℕ-discrete}
 use native.Mathlib.Nat.{mul-zero, zero-mul, zero-div}
@@ -23,18 +23,18 @@ integral-is m n hm hn p q =
 
 -- i+1 divides 720,720, i to 15
 pub divides-unit : (i : ℕ) → i ≤ 15 → (i + 1) * (waterUnit / (i + 1)) ≡ waterUnit
-divides-unit = sound (upto 15 (λ i. (i + 1) * (waterUnit / (i + 1)) ≗ waterUnit)) tt
+divides-unit = sound (upto 15 (λ i. (i + 1) * (waterUnit / (i + 1)) ≗ waterUnit)) refl
 
 -- m+n+2 divides 720,720 × (m+1)
 pub first-divides : (m : ℕ) → m ≤ 7 → (n : ℕ) → n ≤ 7 → (m + n + 2) * c m n 0 ≡ waterUnit * (m + 1)
 unfolding c
-first-divides = sound (upto 7 (λ m. upto 7 (λ n. (m + n + 2) * c m n 0 ≗ waterUnit * (m + 1)))) tt
+first-divides = sound (upto 7 (λ m. upto 7 (λ n. (m + n + 2) * c m n 0 ≗ waterUnit * (m + 1)))) refl
 
 -- and no further division of the recurrence leaves a rest
 pub later-divide : (m : ℕ) → m ≤ 7 → (n : ℕ) → n ≤ 7 → (i : ℕ) → i ≤ 6 →
     let j = suc i in (j + 1) * (m + n + 2 - j) * c m n j ≡ c m n i * (j * (m + 1 - j))
 unfolding c
-later-divide = sound (upto 7 (λ m. upto 7 (λ n. upto 6 (λ i. let j = suc i in (j + 1) * (m + n + 2 - j) * c m n j ≗ c m n i * (j * (m + 1 - j)))))) tt
+later-divide = sound (upto 7 (λ m. upto 7 (λ n. upto 6 (λ i. let j = suc i in (j + 1) * (m + n + 2 - j) * c m n j ≗ c m n i * (j * (m + 1 - j)))))) refl
 
 -- entries with j above m are 0, whatever the grades: the first of them has the factor m−j+1 = 0, each later one the entry before it
 pub zero-above : (m n j : ℕ) → m < j → c m n j ≡ 0

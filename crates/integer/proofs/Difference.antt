@@ -1,6 +1,5 @@
 -- Tool: linear facts about whole numbers, by `omega`, which reads naturals only. Each number is written as a difference of naturals,
 -- and the set `differences` turns sums, products, negations, equations and orders of differences into statements on naturals.
--- `between`, at the end, shows its use.
 use mathlib.Core.Path.{_≡_, refl, sym, _∙_, ap, subst}
 use mathlib.Core.Logic.{_↔_}
 use native.Mathlib.Decide.{decLe}
@@ -109,7 +108,3 @@ pub ⊖-< : (a b c d : ℕ) → ((a ⊖ b) <ℤ (c ⊖ d)) ↔ (a + d < c + b)
     (λ n k e f. (λ h. omega (arith, ltb→lt k n (h .lt)), λ h. ltZ-yes (lt→ltb k n (omega arith))))
 
 pub ruleset differences = (⊖-+, ⊖-*, ⊖-neg, pos-⊖, negsuc-⊖, ⊖-≡, ⊖-≤, ⊖-<)
-
--- its use: the hypotheses stay in the goal, where the set reaches them
-between : (x y z : ℤ) → x ≤ℤ y → y <ℤ (z +ℤ pos 3) → (x -ℤ pos 3) <ℤ z
-between x y z = rw (as-⊖ x, as-⊖ y, as-⊖ z) (simp differences (omega arith))

@@ -1,6 +1,5 @@
--- Floor division has the characterisation `Floor`, and nothing else has it. `shifted`, at the end, shows their use.
+-- Floor division has the characterisation `Floor`, and nothing else has it.
 use mathlib.Core.Path.{_≡_, sym, _∙_, ap}
-use mathlib.Core.List.{[], _∷_}
 use Prim.Native.Nat.{ℕ, suc, _+_, _*_, _-_, _%_, _<_}
 use native.Mathlib.Nat.{div-add-mod', mod-lt, mul-le-mul-right}
 use native.Mathlib.Omega.{arith}
@@ -9,7 +8,6 @@ use lib.IntN.{ℤ, pos, negsuc, _+ℤ_, _*ℤ_}
 use lib.Signed.{shrZ}
 use Rattle.integer.specs.Floor.{Floor}
 use Rattle.integer.specs.Within.{up, dn}
-use Rattle.integer.proofs.Ring.{lets, solve, terms}
 use Rattle.integer.proofs.Difference.{as-⊖, differences}
 
 pub floor : (z : ℤ) (d : ℕ) → 0 < d → Floor z d (shrZ z d)
@@ -33,12 +31,3 @@ one-floor {d = d} {q = q} {p = p} f g = go q p (sym (f .whole) ∙ g .whole)
   where
     go : (q p : ℤ) → q *ℤ pos d +ℤ pos (f .rest) ≡ p *ℤ pos d +ℤ pos (g .rest) → q ≡ p
     go q p = rw (as-⊖ q, as-⊖ p) (simp differences (λ e. one-quotient d (up q + dn p) (up p + dn q) (f .rest) (g .rest) (omega (arith, f .small)) (omega (arith, g .small)) (omega arith)))
-
--- their use: what is added in whole multiples of the divisor comes out whole
-shifted : (z : ℤ) (k d : ℕ) → 0 < d → shrZ (z +ℤ pos (k * d)) d ≡ shrZ z d +ℤ pos k
-shifted z k d h =
-    let f : Floor z d (shrZ z d) = floor z d h in
-    one-floor (floor (z +ℤ pos (k * d)) d h) (record { rest = f .rest; small = f .small; whole = ap (λ x. x +ℤ pos (k * d)) (f .whole) ∙ regroup (shrZ z d) (pos d) (pos (f .rest)) (pos k) })
-  where
-    regroup : (q d r k : ℤ) → q *ℤ d +ℤ r +ℤ k *ℤ d ≡ (q +ℤ k) *ℤ d +ℤ r
-    regroup q d r k = lets (q ∷ d ∷ r ∷ k ∷ []) (λ ρ y. simp (y 0, y 1, y 2, y 3, terms) (solve ρ _ _ tt))

@@ -1,5 +1,5 @@
 -- Tool: identities of a commutative ring, by computing. Both sides are written as terms over the numbers that the caller lists,
--- and the difference is multiplied out: each coefficient that is left must be 0. `square-of-sum`, at the end, shows its use.
+-- and the difference is multiplied out: each coefficient that is left must be 0.
 use mathlib.Core.Path.{_≡_, refl, sym, _∙_, ap, ap₂}
 use mathlib.Core.Bool.{Bool, true, false, cond, _&&_}
 use mathlib.Core.List.{List, [], _∷_}
@@ -199,7 +199,3 @@ unfolding value
 as-negation ρ a = refl
 
 pub ruleset terms = (as-sum, as-product, as-negation)
-
--- its use
-square-of-sum : (a b : ℤ) → (a +ℤ b) *ℤ (a +ℤ b) ≡ a *ℤ a +ℤ pos 2 *ℤ (a *ℤ b) +ℤ b *ℤ b
-square-of-sum a b = lets (a ∷ b ∷ []) (λ ρ y. simp (y 0, y 1, terms, as-lit ρ) (solve ρ _ _ tt))

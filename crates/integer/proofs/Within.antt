@@ -1,12 +1,10 @@
 -- Bounds of sums, products and negations, and that a number bounded below half of a width's power fits in that width.
--- `polynomial-fits`, at the end, shows their use.
 use mathlib.Core.Path.{_≡_, sym, _∙_, ap₂}
 use Prim.Native.Nat.{ℕ, zero, suc, _+_, _*_, _^_, _≤_, _<_, min}
 use native.Mathlib.Nat.{mul-le-mul, mul-le-mul-right}
 use native.Mathlib.Omega.{arith}
-use lib.Dec.{lit<, lit≤}
-use lib.IntN.{ℤ, pos, negsuc, negℤ, _+ℤ_, _-ℤ_, _*ℤ_, +ℤ-idl}
-use mir.Syntax.{Width, w64}
+use lib.IntN.{ℤ, pos, negsuc, negℤ, _+ℤ_, _-ℤ_, _*ℤ_, natAbs, +ℤ-idl}
+use mir.Syntax.{Width}
 use mir.Val.{SFits, hbits}
 use Rattle.integer.specs.Sum.{sum}
 use Rattle.integer.specs.Within.{up, dn, Within}
@@ -59,6 +57,10 @@ fits-within w (negsuc n) f = record { hi = omega arith; lo = f .sfits }
 pub within-natural : (n : ℕ) → Within n (pos n)
 within-natural n = record { hi = omega arith; lo = omega arith }
 
+pub within-size : (z : ℤ) → Within (natAbs z) z
+within-size (pos n) = within-natural n
+within-size (negsuc n) = record { hi = omega arith; lo = omega arith }
+
 -- a sum of terms, each bounded by its share of B
 unfoldable pub shares : ℕ → (ℕ → ℕ) → ℕ
 shares zero b = b zero
@@ -76,7 +78,3 @@ pub shares-most : (e m : ℕ) (b : ℕ → ℕ) → ((j : ℕ) → j ≤ m → b
 unfolding shares
 shares-most e zero b h = omega (arith, h zero (omega arith))
 shares-most e (suc m) b h = omega (arith, shares-most e m b (λ j k. h j (omega arith)), h (suc m) (omega arith))
-
--- their use: x y − z, where z is bounded more closely
-polynomial-fits : (x y z : ℤ) → Within (2 ^ 30) x → Within (2 ^ 30) y → Within 7 z → SFits w64 (x *ℤ y +ℤ negℤ z)
-polynomial-fits x y z u v w = within-fits w64 (x *ℤ y +ℤ negℤ z) (lit< tt) (within-add (x *ℤ y) (negℤ z) (within-mul x y u v) (within-neg z (within-more {B = 2 ^ 30} (lit≤ tt) w)))

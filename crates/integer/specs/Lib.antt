@@ -1,3 +1,4 @@
+pub mod Tests
 pub mod Sum
 pub mod Floor
 pub mod Within

@@ -1,5 +1,5 @@
 -- How large the numbers of a piece can get: laws about the definitions, from which everything fits in 64 bits.
-use mathlib.Core.Path.{_≡_}
+use mathlib.Core.Path.{_≡_, refl}
 use mathlib.Core.List.{List}
 use Prim.Native.Nat.{ℕ, zero, suc, _+_, _*_, _-_, _^_, _≤_, _<_}
 use native.Mathlib.Nat.{le-trans, mul-le-mul-left, mul-le-mul-right, div-le-of-le-mul, div-lt-iff-lt-mul}
@@ -62,11 +62,11 @@ binomials n i = shares i (λ j. binomial (n + i - j) (i - j))
 
 most-7 : (n : ℕ) → n ≤ 7 → (i : ℕ) → i ≤ 7 → binomials n i - 6435 ≡ 0
 unfolding binomials shares binomial
-most-7 = sound (upto 7 (λ n. upto 7 (λ i. binomials n i - 6435 ≗ 0))) tt
+most-7 = sound (upto 7 (λ n. upto 7 (λ i. binomials n i - 6435 ≗ 0))) refl
 
 most-6 : (n : ℕ) → n ≤ 7 → (i : ℕ) → i ≤ 6 → binomials n i - 3003 ≡ 0
 unfolding binomials shares binomial
-most-6 = sound (upto 7 (λ n. upto 6 (λ i. binomials n i - 3003 ≗ 0))) tt
+most-6 = sound (upto 7 (λ n. upto 6 (λ i. binomials n i - 3003 ≗ 0))) refl
 
 sums-within : (B Γ n i : ℕ) (w : ℕ → ℤ) → binomials n i - Γ ≡ 0 → ((j : ℕ) → j ≤ i → Within B (w j)) → Within (Γ * B) (g n w i)
 unfolding binomials g
@@ -120,7 +120,7 @@ lower-within (suc m) n a d w hm hn h b small =
 -- what multiplies the weights in one sum of K, added: at most 91,520
 kappas-most : (m : ℕ) → m ≤ 7 → (n : ℕ) → n ≤ 7 → shares m (kappa m n) - 91520 ≡ 0
 unfolding shares kappa binomial
-kappas-most = sound (upto 7 (λ m. upto 7 (λ n. shares m (kappa m n) - 91520 ≗ 0))) tt
+kappas-most = sound (upto 7 (λ m. upto 7 (λ n. shares m (kappa m n) - 91520 ≗ 0))) refl
 
 pub sumK-within : (m n : ℕ) (w : ℕ → ℤ) → m ≤ 7 → n ≤ 7 → ((j : ℕ) → j ≤ m → Within sizeMax (w j)) → Within (91520 * sizeMax) (sumK m n w)
 unfolding sumK
@@ -136,7 +136,7 @@ scaledK-within m n r d k h b w = times-within n _ (d - r) d h (omega arith) (tim
 -- the integral weights of one end, added: at most 2 × 720,720
 entries-most : (m : ℕ) → m ≤ 7 → (n : ℕ) → n ≤ 7 → shares m (c m n) - 2 * waterUnit ≡ 0
 unfolding shares c
-entries-most = sound (upto 7 (λ m. upto 7 (λ n. shares m (c m n) - 2 * waterUnit ≗ 0))) tt
+entries-most = sound (upto 7 (λ m. upto 7 (λ n. shares m (c m n) - 2 * waterUnit ≗ 0))) refl
 
 pub side-within : (m n : ℕ) (w : ℕ → ℤ) → m ≤ 7 → n ≤ 7 → ((j : ℕ) → j ≤ m → Within sizeMax (w j)) → Within (2 * waterUnit * sizeMax) (sum m (λ j. w j *ℤ pos (c m n j)))
 side-within m n w hm hn small =

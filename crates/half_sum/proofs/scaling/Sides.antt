@@ -4,34 +4,21 @@ use mathlib.Core.Bool.{true, false, true≢false}
 use Prim.Native.Nat.{ℕ, suc, _+_, _*_, _-_, _/_, _%_, _≤_, _<_}
 use native.Mathlib.Nat.{div-add-mod', mod-lt, zero-add}
 use native.Mathlib.Omega.{arith}
-use borrow.Author.Tests.{ltb-true}
-use lib.Dec.{T, ltb}
 use lib.IntN.{ℤ, pos, negsuc, natAbs, _+ℤ_, _-ℤ_, _*ℤ_}
-use lib.Signed.{ltZ, nonNeg}
-use Rattle.integer.specs.Within.{Within}
+use lib.Signed.{ltZ}
 use Rattle.integer.specs.Floor.{Floor}
 use Rattle.integer.proofs.Floor.{floor, one-floor}
+use Rattle.integer.proofs.Magnitude.{not-below}
 use Rattle.integer.proofs.Difference.{_⊖_, as-⊖, differences}
 use Rattle.rounding.specs.Scaling.{rounded, scaled}
 
-not-below : (n : ℕ) → ltb n 0 ≡ true → ⊥
-not-below n e = omega (arith, ltb-true n 0 e)
-
 -- from 0 on
-pub natural-magnitude : {B : ℕ} (u : ℤ) → ltZ u (pos 0) ≡ false → Within B u → T (nonNeg u) × (natAbs u ≤ B)
-natural-magnitude (pos n) e w = (tt, w .hi)
-natural-magnitude (negsuc n) e w = absurd (true≢false e)
-
 pub natural-scaled : (u : ℤ) (a d : ℕ) → ltZ u (pos 0) ≡ false → pos (natAbs u * a / d) ≡ scaled u a d
 unfolding scaled rounded
 natural-scaled (pos n) a d e = refl
 natural-scaled (negsuc n) a d e = absurd (true≢false e)
 
 -- below 0: −N × a / d = −N + N × (d − a) / d
-pub negative-magnitude : {B : ℕ} (u : ℤ) → ltZ u (pos 0) ≡ true → Within B u → T (nonNeg (pos 0 -ℤ u)) × (natAbs (pos 0 -ℤ u) ≤ B)
-negative-magnitude (pos n) e w = absurd (not-below n e)
-negative-magnitude (negsuc n) e w = (tt, omega (arith, w .lo))
-
 pub negative-scaled : (u : ℤ) (a d : ℕ) → ltZ u (pos 0) ≡ true → a ≤ d → 0 < d → u +ℤ pos (natAbs (pos 0 -ℤ u) * (d - a) / d) ≡ scaled u a d
 unfolding scaled rounded
 negative-scaled (pos n) a d e h k = absurd (not-below n e)

@@ -1,5 +1,5 @@
 -- A sum of K is a multiple of a sum g_i, so that the table of binomials serves it.
-use mathlib.Core.Path.{_≡_, _∙_, ap}
+use mathlib.Core.Path.{_≡_, refl, _∙_, ap}
 use mathlib.Core.List.{[], _∷_}
 use Prim.Native.Nat.{ℕ, _+_, _*_, _-_, _≤_}
 use lib.IntN.{ℤ, pos, _*ℤ_}
@@ -12,7 +12,7 @@ use Rattle.hermite.specs.Slope.{kappa, sumK}
 
 kappa-is : (m : ℕ) → m ≤ 7 → (n : ℕ) → n ≤ 7 → (j : ℕ) → j ≤ m → kappa m n j ≡ (n + 1) * binomial (n + 1 + m - j) (m - j)
 unfolding kappa binomial
-kappa-is = sound (upto 7 (λ m. upto 7 (λ n. upto m (λ j. kappa m n j ≗ (n + 1) * binomial (n + 1 + m - j) (m - j))))) tt
+kappa-is = sound (upto 7 (λ m. upto 7 (λ n. upto m (λ j. kappa m n j ≗ (n + 1) * binomial (n + 1 + m - j) (m - j))))) refl
 
 regroup : (w x y : ℤ) → w *ℤ (x *ℤ y) ≡ x *ℤ (y *ℤ w)
 regroup w x y = lets (w ∷ x ∷ y ∷ []) (λ ρ v. simp (v 0, v 1, v 2, terms) (solve ρ _ _ tt))

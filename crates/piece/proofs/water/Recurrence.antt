@@ -1,9 +1,9 @@
 -- The table of integral weights: all its 512 entries are those of the recurrence, by one computed test, and so the sums that it gives are those of Water.
+use mathlib.Core.Bool.{true}
 use mathlib.Core.Path.{_≡_, refl, _∙_, ap}
 use mathlib.Core.List.{List}
 use Prim.Native.Nat.{ℕ, _+_, _*_, _-_, _/_, _%_, _≤_}
 use native.Mathlib.Omega.{arith}
-use lib.Dec.{T}
 use lib.IntN.{ℤ, pos, _*ℤ_, *ℤ-comm}
 use lib.ListN.{getD, take, drop, length}
 use Rattle.integer.specs.Sum.{sum}
@@ -18,7 +18,7 @@ use Rattle.half_sum.proofs.Tables.{entries-are, entry-is, part-entry}
 abbrev pub weight-at : ℕ → ℕ
 weight-at k = c (k / 64) (k / 8 % 8) (k % 8)
 
-module _ (t : List ℕ) (right : T (entries-are weight-at 0 t)) (all : length t ≡ 512) where
+module _ (t : List ℕ) (right : entries-are weight-at 0 t ≡ true) (all : length t ≡ 512) where
   entry : (m n j : ℕ) → m ≤ 7 → n ≤ 7 → j ≤ 7 → getD t (64 * m + 8 * n + j) 0 ≡ c m n j
   entry m n j hm hn hj =
       let a : (64 * m + 8 * n + j) / 64 ≡ m = omega arith in

@@ -10,10 +10,11 @@ use mir.Val.{SFits}
 use mir.Facts.{toZ-ofZ, toZ-pos, fits-le, fits-lit}
 use Rattle.integer.specs.Within.{Within}
 use Rattle.integer.proofs.Within.{within-opposite, within-fits}
+use Rattle.integer.proofs.Magnitude.{natural-magnitude, negative-magnitude}
 use Rattle.rounding.specs.Scaling.{scaled}
 use Rattle.rounding.proofs.Bounds.{scaled-within}
 use Rattle.half_sum.proofs.scaling.Parts.{part-below}
-use Rattle.half_sum.proofs.scaling.Sides.{natural-magnitude, natural-scaled, negative-magnitude, negative-scaled}
+use Rattle.half_sum.proofs.scaling.Sides.{natural-scaled, negative-scaled}
 use Rattle.half_sum.proofs.scaling.scaled.Statement.{statement}
 use Rattle.half_sum.proofs.scaling.scaled.Tie as tie
 

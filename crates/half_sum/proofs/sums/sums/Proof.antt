@@ -51,7 +51,7 @@ weighted-requires : tie.Need-weighted-requires Inv-loop μ-loop
 weighted-requires c κs =
     let l = c .before .before in
     let from = 8 * l .before .before .args .n + 7 - l .loop .i in
-    (omega arith, simp (length-take, length-drop) (omega arith), part-entries _ (72 - from) from tt, l .before .before .pre .1)
+    (omega arith, simp (length-take, length-drop) (omega arith), part-entries _ (72 - from) from refl, l .before .before .pre .1)
 
 mul-g : tie.Need-mul-g Inv-loop μ-loop
 mul-g c = omega arith
@@ -72,7 +72,7 @@ loop-again c =
       omega arith,
       filled-more _ (l .loop .inv .1) (omega arith)
           (result-is (c .weighted .result) (c .weighted .ok) ∙ c .weighted .ensures ∙
-          g-by-rows _ tt refl (l .before .before .args .n) (l .loop .i) (omega arith) (omega arith) (l .before .before .args .w .now)),
+          g-by-rows _ refl refl (l .before .before .args .n) (l .loop .i) (omega arith) (omega arith) (l .before .before .args .w .now)),
     )
 
 returns : tie.Need-returns Inv-loop μ-loop

@@ -56,7 +56,7 @@ weighted-requires : tie.Need-weighted-requires
 weighted-requires c κs =
     let b = c .before .before in
     let from = 8 * (b .args .n + 1) + 7 - b .args .m in
-    (omega arith, simp (length-take, length-drop) (omega arith), part-entries _ (72 - from) from tt, more-weights (lit≤ tt) (b .pre .2))
+    (omega arith, simp (length-take, length-drop) (omega arith), part-entries _ (72 - from) from refl, more-weights (lit≤ tt) (b .pre .2))
 
 product-is : (c : tie.After-weighted) → let b = c .before .before .before in
     toZ w64 (b .args .n + 1) *ℤ toZ w64 (ofZ w64 (c .weighted .result)) ≡ sumK (b .args .m) (b .args .n) (coefficient (b .args .w .now))
@@ -65,7 +65,7 @@ product-is c =
     let b = c .before .before .before in
     ap₂ (λ x y. x *ℤ y) (toZ-pos w64 {n = b .args .n + 1} (omega arith))
     (result-is (c .weighted .result) (c .weighted .ok) ∙ c .weighted .ensures ∙
-    g-by-rows _ tt refl (b .args .n + 1) (b .args .m) (omega arith) (omega arith) (b .args .w .now)) ∙
+    g-by-rows _ refl refl (b .args .n + 1) (b .args .m) (omega arith) (omega arith) (b .args .w .now)) ∙
     sym (sumK-by-g (b .args .m) (b .args .n) (coefficient (b .args .w .now)) (b .pre .0) (b .pre .1))
 
 product-fits : (c : tie.After-weighted) → let b = c .before .before .before in SFits w64 (sumK (b .args .m) (b .args .n) (coefficient (b .args .w .now)))

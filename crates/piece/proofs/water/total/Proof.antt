@@ -81,7 +81,7 @@ weighted-requires c κs =
     let row = 64 * (length (b .args .left .now) - 1) + 8 * (length (b .args .right .now) - 1) in (
       omega arith,
       simp (length-take, length-drop) (omega arith),
-      part-entries _ (512 - row) row tt,
+      part-entries _ (512 - row) row refl,
       more-weights (lit≤ tt) (listed-weights (c .before .before .before .before .weights .ensures) (λ j. sized-within (b .args .h) (b .args .left .now) j (b .pre .leftSize))),
     )
 
@@ -106,7 +106,7 @@ weighted-requires-2 c κs =
     let row = 64 * (length (b .args .right .now) - 1) + 8 * (length (b .args .left .now) - 1) in (
       omega arith,
       simp (length-take, length-drop) (omega arith),
-      part-entries _ (512 - row) row tt,
+      part-entries _ (512 - row) row refl,
       more-weights (lit≤ tt) (listed-weights (c .before .before .before .before .before .before .right-weights .ensures) (λ j. right-sized (b .args .h) (b .args .right .now) j (b .pre .rightSize))),
     )
 
@@ -124,7 +124,7 @@ module _ (c : tie.After-weighted2) where
       (c .weighted2 .result ≡ sum (n (P c)) (λ j. rightWeights (q (P c)) j *ℤ pos (Water·c (n (P c)) (m (P c)) j)))
   unfolding Water·c
   sides-are =
-      sums-by-table _ tt refl (m (P c)) (n (P c)) (omega arith) (omega arith)
+      sums-by-table _ refl refl (m (P c)) (n (P c)) (omega arith) (omega arith)
       (c .before .before .before .before .before .before .before .before .weights .result)
       (c .before .before .before .before .before .before .before .right-weights .result)
       (λ j h. c .before .before .before .before .before .before .before .before .weights .ensures .entry j (omega arith))
