@@ -18,7 +18,7 @@ use Rattle.integer.proofs.Within.{within-natural, within-mul, within-fits, with
 use Rattle.hermite.specs.Polynomial.{coefficient}
 use Rattle.hermite.specs.Water.{waterUnit}
 use Rattle.half_sum.specs.Lists.{Entries, Weights}
-use Rattle.rounding.specs.Size.{sizeMax}
+use Rattle.rounding.specs.Limits.{sizeMax}
 
 -- a call's result, as it is held
 pub result-is : (z : ℤ) → mag z < 2 ^ 63 → toZ w64 (ofZ w64 z) ≡ z

@@ -1,16 +1,19 @@
 // The weights of a knot for a piece of h steps, in order of j; 0 above the grade.
-ghost use Prim.Native.Nat.{_≤_};
+ghost use mathlib.Core.Bool.{true};
+ghost use mathlib.Core.Path.{_≡_};
+ghost use Prim.Native.Nat.{_+_, _≤_};
 ghost use lib.ListN.{length};
 ghost use Rattle.hermite.specs.Blend.{rightWeights};
 ghost use Rattle.hermite.specs.Polynomial.{coefficient};
 ghost use Rattle.hermite.specs.Slope.{primed as Slope·primed};
 ghost use Rattle.half_sum.specs.Lists.{Lists, Weights};
 ghost use Rattle.rounding.specs.Piece.{weight};
-ghost use Rattle.rounding.specs.Size.{Sized, sizeMax};
+ghost use Rattle.rounding.specs.Limits.{gapMax, gradeMax, sizeMax};
+ghost use Rattle.rounding.specs.Size.{sized};
 
 // C_j × h^j: p_j of a left knot, q_j of a right one.
 pub fn weights(h: u64, c: &[i32]) -> [i64; 8]
-    requires { ⌜ (h ≤ 16) × (length (now c) ≤ 8) ⌝ }
+    requires { ⌜ (h ≤ gapMax) × (length (now c) ≤ gradeMax + 1) ⌝ }
     ensures { λ w. ⌜ Lists w (weight h (now (c .entry))) ⌝ }
 {
     let mut w = [0i64; 8];
@@ -42,7 +45,7 @@ fn alternated(q: [i64; 8]) -> [i64; 8]
 
 // Right weights, of a right knot.
 pub fn right_weights(h: u64, c: &[i32]) -> [i64; 8]
-    requires { ⌜ (h ≤ 16) × (length (now c) ≤ 8) × (Sized h (now c)) ⌝ }
+    requires { ⌜ (h ≤ gapMax) × (length (now c) ≤ gradeMax + 1) × (sized h (now c) ≡ true) ⌝ }
     ensures { λ w. ⌜ Lists w (rightWeights (weight h (now (c .entry)))) ⌝ }
 {
     alternated(weights(h, c))

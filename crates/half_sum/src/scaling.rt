@@ -3,6 +3,7 @@ ghost use mathlib.Core.Path.{_≡_};
 ghost use Prim.Native.Nat.{_*_, _/_, _≤_, _<_, _^_, _-_};
 ghost use Rattle.integer.specs.Within.{Within};
 ghost use Rattle.half_sum.specs.Divisor.{Divides, Fraction};
+ghost use Rattle.rounding.specs.Limits.{gapMax};
 ghost use Rattle.rounding.specs.Scaling.{scaled as Scaling·scaled, scaledTimes};
 
 // A divisor d of 1 to 4,096 with its reciprocal, 2^36 / d + 1, which saves a division in each scaling.
@@ -13,7 +14,7 @@ pub struct Divisor {
 
 impl Divisor {
     pub fn of(d: u64) -> Self
-        requires { ⌜ (0 < d) × (d ≤ 4096) ⌝ }
+        requires { ⌜ (0 < d) × (d ≤ 256 * gapMax) ⌝ }
         ensures { λ r. ⌜ (r .d ≡ d) × (Divides r) ⌝ }
     {
         Self {

@@ -3,7 +3,7 @@ ghost use mathlib.Core.Path.{_≡_};
 ghost use Prim.Native.Nat.{_*_, _≤_};
 ghost use Rattle.hermite.specs.Polynomial.{coefficient};
 ghost use Rattle.rounding.specs.HalfSum.{descended as HalfSum·descended, halfSum, lowerHalfSum};
-ghost use Rattle.rounding.specs.Size.{sizeMax};
+ghost use Rattle.rounding.specs.Limits.{gradeMax, sizeMax};
 ghost use Rattle.half_sum.specs.Divisor.{Fraction};
 ghost use Rattle.half_sum.specs.Lists.{Weights};
 use super::knot_weights::primed;
@@ -17,7 +17,7 @@ pub const VALUE_UNIT: i64 = 65_536;
 
 // Step 2: u from m down to 0, over the sums g_i, each at most 6,435 times the greatest weight.
 fn descended(m: usize, a: u64, divisor: Divisor, g: &[i64]) -> i64
-    requires { ⌜ (m ≤ 7) × (Fraction a divisor) × (Weights (6435 * (7 * sizeMax)) (now g)) ⌝ }
+    requires { ⌜ (m ≤ gradeMax) × (Fraction a divisor) × (Weights (6435 * (7 * sizeMax)) (now g)) ⌝ }
     ensures { λ r. ⌜ r ≡ HalfSum·descended (coefficient (now (g .entry))) a (divisor .d) m 0 ⌝ }
 {
     let mut i = m;
@@ -31,7 +31,7 @@ fn descended(m: usize, a: u64, divisor: Divisor, g: &[i64]) -> i64
 
 // The half-sum: the three steps, of which the last scales by (d−a)/d, n+1 times.
 pub fn half_sum(m: usize, n: usize, a: u64, divisor: Divisor, w: &[i64]) -> i64
-    requires { ⌜ (m ≤ 7) × (n ≤ 7) × (Fraction a divisor) × (Weights (7 * sizeMax) (now w)) ⌝ }
+    requires { ⌜ (m ≤ gradeMax) × (n ≤ gradeMax) × (Fraction a divisor) × (Weights (7 * sizeMax) (now w)) ⌝ }
     ensures { λ r. ⌜ r ≡ halfSum m n a (divisor .d) (coefficient (now (w .entry))) ⌝ }
 {
     let g = sums(n, w);
@@ -42,7 +42,7 @@ pub fn half_sum(m: usize, n: usize, a: u64, divisor: Divisor, w: &[i64]) -> i64
 
 // The half-sum of m−1 against n on w'; half-sums of grade −1 are 0.
 pub fn lower_half_sum(m: usize, n: usize, a: u64, divisor: Divisor, w: &[i64]) -> i64
-    requires { ⌜ (m ≤ 7) × (n ≤ 7) × (Fraction a divisor) × (Weights sizeMax (now w)) ⌝ }
+    requires { ⌜ (m ≤ gradeMax) × (n ≤ gradeMax) × (Fraction a divisor) × (Weights sizeMax (now w)) ⌝ }
     ensures { λ r. ⌜ r ≡ lowerHalfSum m n a (divisor .d) (coefficient (now (w .entry))) ⌝ }
 {
     if m == 0 {

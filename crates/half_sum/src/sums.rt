@@ -7,7 +7,7 @@ ghost use Rattle.integer.specs.Sum.{sum as Sum·sum};
 ghost use Rattle.hermite.specs.HalfSum.{g as HalfSum·g};
 ghost use Rattle.hermite.specs.Polynomial.{coefficient};
 ghost use Rattle.half_sum.specs.Lists.{Entries, Lists, Weights};
-ghost use Rattle.rounding.specs.Size.{sizeMax};
+ghost use Rattle.rounding.specs.Limits.{gradeMax, sizeMax};
 
 // Row n, from 0 to 8: binomial(n+7, 7), binomial(n+6, 6) and so on down to binomial(n, 0).
 pub const BINOMIALS: [u32; 72] = [
@@ -96,7 +96,7 @@ pub const BINOMIALS: [u32; 72] = [
 
 // The sum of c_j × w_j over j from 0 to m.
 pub fn weighted(m: usize, c: &[u32], w: &[i64]) -> i64
-    requires { ⌜ (m ≤ 7) × (m < length (now c)) × (Entries (now c)) × (Weights (7 * sizeMax) (now w)) ⌝ }
+    requires { ⌜ (m ≤ gradeMax) × (m < length (now c)) × (Entries (now c)) × (Weights (7 * sizeMax) (now w)) ⌝ }
     ensures { λ r. ⌜ r ≡ Sum·sum m (λ j. pos (getD (now (c .entry)) j 0) *ℤ coefficient (now (w .entry)) j) ⌝ }
 {
     let mut sum = c[0] as i64 * w[0];
@@ -110,7 +110,7 @@ pub fn weighted(m: usize, c: &[u32], w: &[i64]) -> i64
 
 // g_0 to g_7 of the weights w against n.
 pub fn sums(n: usize, w: &[i64]) -> [i64; 8]
-    requires { ⌜ (n ≤ 7) × (Weights (7 * sizeMax) (now w)) ⌝ }
+    requires { ⌜ (n ≤ gradeMax) × (Weights (7 * sizeMax) (now w)) ⌝ }
     ensures { λ r. ⌜ Lists r (HalfSum·g n (coefficient (now (w .entry)))) ⌝ }
 {
     let table: &[u32] = &BINOMIALS;

@@ -6,7 +6,7 @@ ghost use Rattle.hermite.specs.Polynomial.{coefficient};
 ghost use Rattle.hermite.specs.Slope.{sumK};
 ghost use Rattle.half_sum.specs.Divisor.{Fraction};
 ghost use Rattle.half_sum.specs.Lists.{Weights};
-ghost use Rattle.rounding.specs.Size.{sizeMax};
+ghost use Rattle.rounding.specs.Limits.{gradeMax, sizeMax};
 ghost use Rattle.rounding.specs.Trend.{scaledK};
 use half_sum::BINOMIALS;
 use half_sum::Divisor;
@@ -17,7 +17,7 @@ use half_sum::weighted;
 // One of the two sums of K. What multiplies w_j there, (m+n−j+1) × binomial(m+n−j, m−j), is (n+1) × binomial(n+1+m−j, m−j):
 // n+1 times an entry of the table.
 pub fn sum_k(m: usize, n: usize, w: &[i64]) -> i64
-    requires { ⌜ (m ≤ 7) × (n ≤ 7) × (Weights sizeMax (now w)) ⌝ }
+    requires { ⌜ (m ≤ gradeMax) × (n ≤ gradeMax) × (Weights sizeMax (now w)) ⌝ }
     ensures { λ r. ⌜ r ≡ sumK m n (coefficient (now (w .entry))) ⌝ }
 {
     let table: &[u32] = &BINOMIALS;

@@ -2,8 +2,10 @@
 ghost use mathlib.Core.Path.{_≡_};
 ghost use Prim.Native.Nat.{_+_, _^_, _≤_, _<_};
 ghost use lib.ListN.{length};
+ghost use Rattle.rounding.specs.Limits.{gradeMax};
 use super::admit::admitted;
 use super::text::number;
+use knot::COEFFICIENTS_MAX;
 
 // 32 bits, low byte first.
 fn word(bytes: &[u8], at: usize) -> u64
@@ -27,13 +29,13 @@ fn signed(word: u64) -> i32
 }
 
 // The 8 coefficients from a byte on.
-fn coefficients(bytes: &[u8], at: usize) -> [i32; 8]
+fn coefficients(bytes: &[u8], at: usize) -> [i32; COEFFICIENTS_MAX]
     requires { ⌜ at + 32 ≤ length (now bytes) ⌝ }
-    ensures { λ c. ⌜ 8 ≡ length c ⌝ }
+    ensures { λ c. ⌜ gradeMax + 1 ≡ length c ⌝ }
 {
-    let mut c = [0i32; 8];
+    let mut c = [0i32; COEFFICIENTS_MAX];
     let mut j = 0;
-    while j < 8 {
+    while j < COEFFICIENTS_MAX {
         c[j] = signed(word(bytes, at + 4 * j));
         j += 1;
     }
@@ -61,10 +63,10 @@ pub fn run(bytes: &[u8])
     let r = word(bytes, 12);
     let left = coefficients(bytes, 16);
     let right = coefficients(bytes, 48);
-    if 8 < left_count {
+    if COEFFICIENTS_MAX < left_count {
         return;
     }
-    if 8 < right_count {
+    if COEFFICIENTS_MAX < right_count {
         return;
     }
     answer(h, &left[..left_count], &right[..right_count], r);

@@ -1,15 +1,20 @@
 -- How large the numbers of a piece can get: laws about the definitions, from which everything fits in 64 bits.
+use borrow.Author.Tests.{leb-true}
+use mathlib.Core.Bool.{true}
 use mathlib.Core.Path.{_≡_, refl}
 use mathlib.Core.List.{List}
 use Prim.Native.Nat.{ℕ, zero, suc, _+_, _*_, _-_, _^_, _≤_, _<_}
-use native.Mathlib.Nat.{le-trans, mul-le-mul-left, mul-le-mul-right, div-le-of-le-mul, div-lt-iff-lt-mul}
+use native.Mathlib.Nat.{pow-le-pow-left, pow-le-pow-right, le-trans, mul-le-mul-left, mul-le-mul-right, div-le-of-le-mul, div-lt-iff-lt-mul}
+use native.Mathlib.Decide.{decLt}
 use native.Mathlib.Omega.{arith}
-use lib.Dec.{lit≤}
-use lib.IntN.{ℤ, pos, negsuc, _*ℤ_}
+use lib.Dec.{lit<, lit≤}
+use lib.IntN.{ℤ, pos, negsuc, _*ℤ_, natAbs, zero-*ℤ}
+use lib.ListN.{length, getD, List·getD-eq-default}
 use Rattle.integer.specs.Sum.{sum}
 use Rattle.integer.specs.Within.{Within}
+use Rattle.integer.proofs.Tests.{each-at}
 use Rattle.integer.proofs.Claim.{_≗_, upto, sound}
-use Rattle.integer.proofs.Within.{shares, within-sum, within-more, within-add, within-mul, within-neg, within-natural}
+use Rattle.integer.proofs.Within.{shares, within-sum, within-more, within-add, within-mul, within-neg, within-natural, within-size}
 use Rattle.hermite.specs.Binomial.{binomial, sign}
 use Rattle.hermite.specs.Blend.{rightWeights}
 use Rattle.hermite.specs.HalfSum.{valueUnit, g}
@@ -18,7 +23,8 @@ use Rattle.hermite.specs.Water.{waterUnit, c}
 use Rattle.rounding.specs.Scaling.{rounded, scaled, scaledTimes}
 use Rattle.rounding.specs.HalfSum.{descended, halfSum, lowerHalfSum}
 use Rattle.rounding.specs.Piece.{weight}
-use Rattle.rounding.specs.Size.{Sized, sizeMax}
+use Rattle.rounding.specs.Limits.{gradeMax, gapMax, sizeMax}
+use Rattle.rounding.specs.Size.{small, sized}
 use Rattle.rounding.specs.Trend.{scaledK}
 
 -- rounding down does not enlarge
@@ -45,14 +51,25 @@ pub primed-within : {B : ℕ} (w : ℕ → ℤ) (j : ℕ) → j ≤ 6 → Within
 unfolding primed
 primed-within w j h b = within-mul (pos (j + 1)) (w (j + 1)) (within-more {B = 7} (omega arith) (within-natural (j + 1))) b
 
--- a knot's weights, by the size rule, with and without their signs
-pub sized-within : (h : ℕ) (C : List ℤ) (j : ℕ) → Sized h C → Within sizeMax (weight h C j)
-unfolding Sized
-sized-within h C j sized = sized j
+-- h^j, of a gap and an order
+pub power-small : (h j : ℕ) → h ≤ gapMax → j ≤ gradeMax → h ^ j ≤ 2 ^ 28
+power-small h j a b = le-trans (pow-le-pow-left a j) (pow-le-pow-right {n = gapMax} (lit< tt) b)
 
-pub right-sized : (h : ℕ) (C : List ℤ) (j : ℕ) → Sized h C → Within sizeMax (rightWeights (weight h C) j)
-unfolding Sized rightWeights
-right-sized h C j sized = within-mul (sign j) (weight h C j) (sign-within j) (sized j)
+-- a knot's weights, by the size rule, with and without their signs; past the list they are 0
+product-within : (C : ℤ) (power : ℕ) → natAbs C * power ≤ sizeMax → Within sizeMax (C *ℤ pos power)
+product-within C power h = within-more h (within-mul C (pos power) (within-size C) (within-natural power))
+
+pub sized-within : (h : ℕ) (C : List ℤ) (j : ℕ) → sized h C ≡ true → Within sizeMax (weight h C j)
+unfolding sized
+sized-within h C j e = go (decLt j (length C))
+  where
+    go : Dec (j < length C) → Within sizeMax (weight h C j)
+    go (yes b) = product-within (getD C j (pos 0)) (h ^ j) (leb-true _ _ (each-at (length C) (small h C) e j b))
+    go (no b) = rw (List·getD-eq-default C (pos 0) {n = j} (omega arith), zero-*ℤ (pos (h ^ j))) (within-more (lit≤ tt) (within-natural 0))
+
+pub right-sized : (h : ℕ) (C : List ℤ) (j : ℕ) → sized h C ≡ true → Within sizeMax (rightWeights (weight h C) j)
+unfolding rightWeights
+right-sized h C j e = within-mul (sign j) (weight h C j) (sign-within j) (sized-within h C j e)
 
 -- ---- the half-sum
 

@@ -11,7 +11,8 @@ use Rattle.hermite.specs.Slope.{sumK, K}
 use Rattle.hermite.specs.Water.{waterUnit, weightedSum}
 use Rattle.rounding.specs.HalfSum.{halfSum}
 use Rattle.rounding.specs.Piece.{Piece, m, n, p, q, D}
-use Rattle.rounding.specs.Size.{Admitted, sizeMax}
+use Rattle.rounding.specs.Limits.{sizeMax}
+use Rattle.rounding.specs.Size.{Admitted}
 use Rattle.rounding.specs.Trend.{Y1, Y2, Y3}
 use Rattle.rounding.specs.Value.{value}
 use Rattle.rounding.specs.Water.{total}

@@ -1,4 +1,5 @@
 pub mod Piece
+pub mod Limits
 pub mod Size
 pub mod Scaling
 pub mod HalfSum

@@ -1,26 +1,33 @@
 -- Document 01, "The reel": the size rule, for one list of coefficients and one gap, and what a piece of a reel can be.
-use Prim.Native.Nat.{ℕ, _≤_}
-use lib.IntN.{ℤ}
-use lib.ListN.{length}
+use mathlib.Core.Bool.{Bool, true}
 use mathlib.Core.List.{List}
-use Rattle.integer.specs.Within.{Within}
-use Rattle.rounding.specs.Piece.{Piece, weight}
+use mathlib.Core.Path.{_≡_}
+use Prim.Native.Nat.{ℕ, _+_, _*_, _^_, _≤_}
+use lib.Dec.{leb}
+use lib.IntN.{ℤ, pos, natAbs}
+use lib.ListN.{length, getD}
+use Rattle.integer.specs.Tests.{each}
+use Rattle.rounding.specs.Limits.{gradeMax, gapMax, sizeMax}
+use Rattle.rounding.specs.Piece.{Piece}
 
--- 2^28
-abbrev pub sizeMax : ℕ
-sizeMax = 268435456
+-- |C_j| × h^j is at most 2^28
+abbrev pub small : ℕ → List ℤ → ℕ → Bool
+small h C j = leb (natAbs (getD C j (pos 0)) * h ^ j) sizeMax
 
--- each |C_j| × h^j is at most 2^28 (past the list it is 0)
-unfoldable pub Sized : ℕ → List ℤ → Type 0
-Sized h C = (j : ℕ) → Within sizeMax (weight h C j)
+-- the size rule for one list and one gap h: each |C_j| × h^j is at most 2^28
+unfoldable pub sized : ℕ → List ℤ → Bool
+sized h C = each (length C) (small h C)
+
+-- a grade of 0 to 7: a list of 1 to 8 coefficients
+pub record Listed (C : List ℤ) : Type 0 where
+  pub atLeast : 1 ≤ length C
+  pub atMost : length C ≤ gradeMax + 1
 
 -- a gap of 1 to 16 steps, at each end a grade of 0 to 7, and the size rule with this gap
 pub record Admitted (P : Piece) : Type 0 where
   pub gapAtLeast : 1 ≤ P .h
-  pub gapAtMost : P .h ≤ 16
-  pub leftAtLeast : 1 ≤ length (P .left)
-  pub leftAtMost : length (P .left) ≤ 8
-  pub rightAtLeast : 1 ≤ length (P .right)
-  pub rightAtMost : length (P .right) ≤ 8
-  pub leftSize : Sized (P .h) (P .left)
-  pub rightSize : Sized (P .h) (P .right)
+  pub gapAtMost : P .h ≤ gapMax
+  pub leftGrade : Listed (P .left)
+  pub rightGrade : Listed (P .right)
+  pub leftSize : sized (P .h) (P .left) ≡ true
+  pub rightSize : sized (P .h) (P .right) ≡ true

@@ -12,7 +12,7 @@ use Rattle.hermite.specs.Slope.{primed as Slope·primed}
 use Rattle.integer.specs.Within.{Within}
 use Rattle.integer.proofs.Within.{within-fits}
 use Rattle.hermite.specs.Polynomial.{coefficient}
-use Rattle.rounding.specs.Size.{sizeMax}
+use Rattle.rounding.specs.Limits.{sizeMax}
 use Rattle.rounding.proofs.Bounds.{primed-within}
 use Rattle.half_sum.proofs.Lists.{Filled, filled-zeros, filled-more, filled-lists}
 use Rattle.half_sum.proofs.knot_weights.primed.Statement.{statement}

@@ -1,7 +1,7 @@
 -- `half_sum::knot_weights::weights` meets its contract. After j turns the array holds the first j weights and power is h^j.
 use mathlib.Core.Path.{_≡_, refl, sym, _∙_, ap}
-use Prim.Native.Nat.{ℕ, _-_, _^_, _≤_}
-use native.Mathlib.Nat.{pow-zero, pow-suc, pow-le-pow-left, pow-le-pow-right, le-trans, lt-of-le-of-lt, mul-le-mul}
+use Prim.Native.Nat.{_-_, _^_, _≤_}
+use native.Mathlib.Nat.{pow-zero, pow-suc, lt-of-le-of-lt, mul-le-mul}
 use native.Mathlib.Numerals.{add-one}
 use native.Mathlib.Omega.{arith}
 use lib.Dec.{lit<}
@@ -14,6 +14,7 @@ use Rattle.integer.specs.Within.{Within}
 use Rattle.integer.proofs.Within.{fits-within, within-natural, within-more, within-mul, within-fits}
 use Rattle.hermite.specs.Polynomial.{coefficient}
 use Rattle.rounding.specs.Piece.{weight}
+use Rattle.rounding.proofs.Bounds.{power-small}
 use Rattle.half_sum.proofs.Lists.{Filled, filled-zeros, filled-more, filled-lists}
 use Rattle.half_sum.proofs.knot_weights.weights.Statement.{statement}
 use Rattle.half_sum.proofs.knot_weights.weights.Tie as tie
@@ -32,10 +33,6 @@ mul-w c = omega arith
 
 shared-slice-copy-out-w : tie.Need-shared-slice-copy-out-w Inv-loop μ-loop
 shared-slice-copy-out-w c = omega arith
-
--- h^j, for an order up to 7
-power-small : (h j : ℕ) → h ≤ 16 → j ≤ 7 → h ^ j ≤ 2 ^ 28
-power-small h j a b = le-trans (pow-le-pow-left a j) (pow-le-pow-right {n = 16} (lit< tt) b)
 
 module _ (c : tie.After-w Inv-loop μ-loop) where
   coefficient-fits : let l = c .before .before in SFits w32 (coefficient (l .before .args .c .now) (l .loop .j))

@@ -8,7 +8,7 @@ use Rattle.hermite.specs.HalfSum.{g}
 use Rattle.hermite.specs.Polynomial.{coefficient}
 use Rattle.rounding.specs.HalfSum.{descended, halfSum}
 use Rattle.rounding.specs.Scaling.{scaledTimes}
-use Rattle.rounding.specs.Size.{sizeMax}
+use Rattle.rounding.specs.Limits.{sizeMax}
 use Rattle.rounding.proofs.Agree.{descended-agree}
 use Rattle.rounding.proofs.Bounds.{g-within, descended-fits}
 use Rattle.half_sum.proofs.Machine.{result-is}

@@ -1,7 +1,7 @@
 -- `piece_vectors::admit::admitted` meets its contract: a test for each part of it.
 use borrow.Author.Needs.{needs}
 use borrow.Author.Tests.{not-false}
-use mathlib.Core.Path.{sym}
+use mathlib.Core.Path.{sym, _∙_}
 use mathlib.Core.Bool.{true≢false}
 use native.Mathlib.Omega.{arith}
 use Rattle.piece_vectors.proofs.admit.admitted.Statement.{statement}
@@ -45,12 +45,10 @@ returns-9 c = λ e. (
   record {
     gapAtLeast = omega arith;
     gapAtMost = omega arith;
-    leftAtLeast = omega arith;
-    leftAtMost = omega arith;
-    rightAtLeast = omega arith;
-    rightAtMost = omega arith;
-    leftSize = c .before .before .sized .ensures (not-false _ (c .before .if8 .left));
-    rightSize = c .sized2 .ensures e;
+    leftGrade = record { atLeast = omega arith; atMost = omega arith };
+    rightGrade = record { atLeast = omega arith; atMost = omega arith };
+    leftSize = sym (c .before .before .sized .ensures) ∙ not-false _ (c .before .if8 .left);
+    rightSize = sym (c .sized2 .ensures) ∙ e;
   },
   omega arith,
 )

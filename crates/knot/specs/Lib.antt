@@ -1,0 +1,4 @@
+pub mod Scan
+pub mod SizeRule
+pub mod RefusalTable
+pub mod Machine

@@ -1,0 +1,58 @@
+-- What the machine's knots and verdicts are in the model.
+use mathlib.Core.Bool.{true, cond}
+use mathlib.Core.List.{List}
+use mathlib.Core.Option.{Option, none, some}
+use mathlib.Core.Path.{_≡_}
+use Prim.Native.Nat.{ℕ, _+_, _≤_}
+use lib.ListN.{length, take}
+use Rattle.rounding.specs.Limits.{gradeMax, gapMax}
+use Rattle.knot.specs.Scan.{Scan, gap}
+use Rattle.knot.specs.declared.held.Knot.{Knot}
+use Rattle.knot.specs.declared.following.Neighbour.{Neighbour}
+use Rattle.knot.specs.declared.table.Refusal.{Refusal}
+use Rattle.knot.specs.declared.table.Refusal.the-variants as Refusals
+use Rattle.knot.specs.declared.table.Verdict.{Verdict}
+use Rattle.knot.specs.declared.table.Verdict.the-variants as Verdicts
+
+-- the scan of a knot: its list is its first grade + 1 coefficients, and those past them are free
+abbrev pub scan : Knot → Scan
+scan k = record { position = k .position; coefficients = take (k .grade + 1) (k .coefficients) }
+
+-- an array of 8 coefficients, and a grade of 0 to 7
+pub record Graded (k : Knot) : Type 0 where
+  pub room : length (k .coefficients) ≡ gradeMax + 1
+  pub grade : k .grade ≤ gradeMax
+
+-- the knot holds the scan
+pub record Holds (k : Knot) (s : Scan) : Type 0 where
+  pub graded : Graded k
+  pub is : scan k ≡ s
+
+-- the scan of a neighbour
+abbrev pub neighbour : Neighbour → Option Scan
+neighbour n = cond (n .there) (some (scan (n .knot))) none
+
+-- a neighbour on the left, if there is one, lies at most 16 steps before position x; one on the right as much after the knot
+abbrev pub CloseBefore : Neighbour → ℕ → Type 0
+CloseBefore n x = n .there ≡ true → gap (scan (n .knot)) x ≤ gapMax
+
+abbrev pub CloseAfter : Knot → Neighbour → Type 0
+CloseAfter k n = n .there ≡ true → gap (scan k) (n .knot .position) ≤ gapMax
+
+-- the paper's number of each cause
+abbrev pub number : Refusal → ℕ
+number Refusals.Form = 1
+number Refusals.Full = 2
+number Refusals.List = 3
+number Refusals.Position = 4
+number Refusals.Gap = 5
+number Refusals.Size = 6
+number Refusals.Outside = 7
+number Refusals.Few = 8
+number Refusals.Index = 9
+number Refusals.Output = 10
+
+-- the number that a verdict refuses with
+abbrev pub refusal : Verdict → Option ℕ
+refusal Verdicts.Passed = none
+refusal (Verdicts.Refused r) = some (number r)

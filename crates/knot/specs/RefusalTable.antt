@@ -1,0 +1,68 @@
+-- Document 01, "Refusal table": its rows, each a cause that holds or not, with its number; and the first cause that holds.
+-- Rows 1, 7, 8 and 10, and the other half of row 9, belong to calls that do not stand yet.
+use mathlib.Core.Bool.{Bool, false, not, _||_, cond}
+use mathlib.Core.List.{List, [], _∷_}
+use mathlib.Core.Option.{Option, none, some}
+use Prim.Native.Nat.{ℕ, _+_}
+use lib.Dec.{eqb, leb, ltb}
+use lib.ListN.{length}
+use Rattle.rounding.specs.Limits.{knotsMax, positionMax, gradeMax, gapMax}
+use Rattle.knot.specs.Scan.{Scan, gap}
+use Rattle.knot.specs.SizeRule.{follows}
+
+pub record Cause : Type 0 where
+  pub number : ℕ
+  pub holds : Bool
+
+-- the number of the first cause that holds
+abbrev pub first : List Cause → Option ℕ
+first [] = none
+first (c ∷ cs) = cond (c .holds) (some (c .number)) (first cs)
+
+-- ---- the rows, in the table's order
+
+-- a knot count above 129
+abbrev pub tooMany : ℕ → Cause
+tooMany count = record { number = 2; holds = ltb knotsMax count }
+
+-- coefficient list of length 0 or above 8
+abbrev pub badList : ℕ → Cause
+badList n = record { number = 3; holds = eqb n 0 || ltb (gradeMax + 1) n }
+
+-- position above 65,535 or not above the last
+abbrev pub badPosition : Option Scan → ℕ → Cause
+badPosition last x = record { number = 4; holds = ltb positionMax x || notAbove last }
+  where
+    notAbove : Option Scan → Bool
+    notAbove none = false
+    notAbove (some held) = leb x (held .position)
+
+-- gap above 16
+abbrev pub wideGap : Option Scan → ℕ → Cause
+wideGap last x = record { number = 5; holds = wide last }
+  where
+    wide : Option Scan → Bool
+    wide none = false
+    wide (some held) = ltb gapMax (gap held x)
+
+-- size rule broken
+abbrev pub badSize : Bool → Cause
+badSize kept = record { number = 6; holds = not kept }
+
+-- no knot k
+abbrev pub noKnot : ℕ → List Scan → Cause
+noKnot k scans = record { number = 9; holds = leb (length scans) k }
+
+-- ---- the tests
+
+-- the list test: 3
+abbrev pub listCauses : ℕ → List Cause
+listCauses n = badList n ∷ []
+
+-- what may follow the last knot: the position test, 4, then 5
+abbrev pub positionCauses : Option Scan → ℕ → List Cause
+positionCauses last x = badPosition last x ∷ wideGap last x ∷ []
+
+-- and the size test, 6
+abbrev pub sizeCauses : Option Scan → Scan → List Cause
+sizeCauses last s = badSize (follows last s) ∷ []
