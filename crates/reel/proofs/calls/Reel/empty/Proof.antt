@@ -1,0 +1,14 @@
+-- `reel::calls::Reel::empty` meets its contract.
+use mathlib.Core.Path.{refl}
+use native.Mathlib.Omega.{arith}
+use Rattle.reel.specs.Machine.{scans}
+use Rattle.reel.proofs.Standing.{standing-none}
+use Rattle.reel.proofs.calls.Reel.empty.Statement.{statement}
+use Rattle.reel.proofs.calls.Reel.empty.Tie as tie
+
+returns : tie.Need-returns
+unfolding scans
+returns c = ((record { room = refl; count = omega arith; graded = λ k h. absurd (omega arith); standing = standing-none }, refl), record { knots = refl; gap = refl; grade = refl; size = refl })
+
+pub empty-spec : {M : Type 1} → statement M
+empty-spec = tie.close (tie.spec returns)

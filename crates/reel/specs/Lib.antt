@@ -1,0 +1,5 @@
+pub mod Calls
+pub mod Same
+pub mod Standing
+pub mod Machine
+pub mod Sequences

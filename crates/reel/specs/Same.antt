@@ -1,0 +1,16 @@
+-- Document 01, "Refusal table": the call Same.
+use mathlib.Core.Bool.{Bool, _&&_}
+use mathlib.Core.List.{List}
+use lib.Dec.{eqb}
+use lib.ListN.{length}
+use Rattle.integer.specs.Tests.{each, equal}
+use Rattle.knot.specs.Scan.{Scan, moisture}
+use Rattle.reel.specs.Calls.{at}
+
+-- the position and C_0 of two scans agree
+abbrev pub agree : Scan → Scan → Bool
+agree s t = eqb (s .position) (t .position) && equal (moisture s) (moisture t)
+
+-- yes exactly when the knot counts, positions and every C_0 agree
+unfoldable pub same : List Scan → List Scan → Bool
+same scans others = eqb (length scans) (length others) && each (length scans) (λ k. agree (at scans k) (at others k))
