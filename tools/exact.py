@@ -8,6 +8,7 @@ themselves are held against the document's known results here, and against the e
 files that `vectors` makes.
 
   exact.py vectors  make the stored input and output of crates/piece_vectors again
+  exact.py runs     make the stored output of crates/reel_runs again
   exact.py check    hold the entries of "Scans with known results" that concern one piece, the integral
                     weights of source document 001, and a sweep over all grades and gaps
 """
@@ -23,6 +24,8 @@ from pathlib import Path
 UNIT_OF_VALUE = 65_536
 UNIT_OF_WATER = 720_720
 UNIT_OF_POSITION = 256
+KNOTS_MAX = 129
+POSITION_MAX = 65_535
 GRADE_MAX = 7
 GAP_MAX = 16
 SIZE_MAX = 268_435_456
@@ -367,6 +370,141 @@ def vectors():
     print(f"{len(lines)} cases stored")
 
 
+# ---- the reel: its list of knots, and the refusal table
+
+
+def keeps_size_rule(coefficients, gaps):
+    return all(abs(c) * h**j <= SIZE_MAX for h in gaps for j, c in enumerate(coefficients))
+
+
+class Reel:
+    """Knots as pairs of a position and coefficients. Each call returns the number of its refusal, or 0."""
+
+    def __init__(self, knots=()):
+        self.knots = list(knots)
+
+    def clear(self):
+        self.knots = []
+        return 0
+
+    def gaps_beside(self, k):
+        positions = [position for position, _ in self.knots]
+        gaps = [b - a for i, (a, b) in enumerate(zip(positions, positions[1:])) if k in (i, i + 1)]
+        return gaps or [1]
+
+    def append(self, position, coefficients):
+        if len(self.knots) + 1 > KNOTS_MAX:
+            return 2
+        if not 1 <= len(coefficients) <= GRADE_MAX + 1:
+            return 3
+        if position > POSITION_MAX or (self.knots and position <= self.knots[-1][0]):
+            return 4
+        if not self.knots:
+            if not keeps_size_rule(coefficients, [1]):
+                return 6
+        else:
+            last, held = self.knots[-1]
+            gap = position - last
+            if gap > GAP_MAX:
+                return 5
+            if not (keeps_size_rule(held, [gap]) and keeps_size_rule(coefficients, [gap])):
+                return 6
+        self.knots.append((position, coefficients))
+        return 0
+
+    def correct(self, k, coefficients):
+        if k >= len(self.knots):
+            return 9
+        if not 1 <= len(coefficients) <= GRADE_MAX + 1:
+            return 3
+        if not keeps_size_rule(coefficients, self.gaps_beside(k)):
+            return 6
+        self.knots[k] = (self.knots[k][0], coefficients)
+        return 0
+
+
+def same(reel, other):
+    """Counts, positions and every C_0."""
+    return [(position, c[0]) for position, c in reel.knots] == [(position, c[0]) for position, c in other.knots]
+
+
+def run_calls():
+    """The answers to the calls of crates/reel_runs, in their order."""
+    flat = (1,)
+    full = Reel()
+    for k in range(KNOTS_MAX + 1):
+        yield full.append(k, flat)
+    yield full.correct(64, (5, -3))
+
+    gaps = Reel()
+    for position in (100, 116, 133, 116, POSITION_MAX + 1):
+        yield gaps.append(position, flat)
+    yield Reel().append(POSITION_MAX, flat)
+
+    most, more, less = (SIZE_MAX,), (SIZE_MAX + 1,), (-SIZE_MAX - 1,)
+    one, two = only(GRADE_MAX, GRADE_MAX), tuple(2 * c for c in only(GRADE_MAX, GRADE_MAX))
+    yield Reel().append(0, more)
+    yield Reel().append(0, less)
+    pair = Reel()
+    yield pair.append(0, most)
+    yield pair.append(GAP_MAX, two)
+    yield pair.append(GAP_MAX, one)
+    yield pair.correct(1, two)
+    yield pair.correct(0, two)
+    alone = Reel()
+    yield alone.append(0, two)
+    yield alone.append(GAP_MAX, one)
+    yield alone.correct(0, less)
+    yield alone.append(GAP_MAX - 1, one)
+    yield alone.append(GAP_MAX - 2, one)
+
+    inner = Reel()
+    for position in (0, 16, 17, 18, 34):
+        yield inner.append(position, flat)
+    for k in (1, 2, 3):
+        yield inner.correct(k, two)
+
+    places = Reel()
+    yield places.append(0, flat)
+    yield places.correct(1, ())
+    yield places.correct(0, ())
+    yield places.correct(0, (0,) * 9)
+    yield places.append(POSITION_MAX + 1, (0,) * 9)
+    yield places.clear()
+    yield places.correct(0, flat)
+
+    first, second = (7, flat), (9, flat)
+    yield Reel().append(*first)
+    yield Reel([first]).append(*second)
+    asked = Reel([first, second])
+    yield same(Reel([first]), asked)
+    for k, coefficients in ((1, (1, 1)), (1, (2,)), (0, (2,))):
+        other = Reel([first, second])
+        yield other.correct(k, coefficients)
+        yield same(asked, other)
+    other = Reel([first])
+    yield other.append(10, flat)
+    yield same(asked, other)
+    yield [len(asked.knots)]
+    for k in range(3):
+        yield [asked.knots[k][0]] if k < len(asked.knots) else 9
+
+
+def line_of(answer):
+    """A yes or no, a number in a list, or the number of a refusal, 0 for an accepted call."""
+    if isinstance(answer, bool):
+        return "yes" if answer else "no"
+    if isinstance(answer, list):
+        return str(answer[0])
+    return f"refused {answer}" if answer else "accepted"
+
+
+def runs():
+    lines = [line_of(answer) + "\n" for answer in run_calls()]
+    (Path(__file__).resolve().parent.parent / "crates" / "reel_runs" / "stdout").write_text("".join(lines))
+    print(f"{len(lines)} answers stored")
+
+
 def check():
     entries = hold_known_results()
     hold_integral_weights()
@@ -375,7 +513,7 @@ def check():
     print(f"{entries} entries of \"Scans with known results\" held; {cases} further cases within their distances")
 
 
-COMMANDS = {"check": check, "vectors": vectors}
+COMMANDS = {"check": check, "vectors": vectors, "runs": runs}
 
 
 def main(words):
