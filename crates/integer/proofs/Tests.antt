@@ -24,11 +24,13 @@ both-second false b e = absurd (true≢false (sym e))
 pub both : {a b : Bool} → a ≡ true → b ≡ true → (a && b) ≡ true
 both {a} {b} p q = rw (p, q)
 
-none-below : {k : ℕ} → k < 0 → ⊥
-none-below h = omega arith
+-- what is not a yes is a no
+not-yes : (b : Bool) → (b ≡ true → ⊥) → b ≡ false
+not-yes true h = absurd (h refl)
+not-yes false h = refl
 
 pub each-at : (n : ℕ) (f : ℕ → Bool) → each n f ≡ true → (k : ℕ) → k < n → f k ≡ true
-each-at zero f e k h = absurd (none-below h)
+each-at zero f e k h = absurd (omega arith)
 each-at (suc n) f e k h = go (ℕ-discrete k n) (each-at n f (both-first (each n f) (f n) e) k)
   where
     go : Dec (k ≡ n) → (k < n → f k ≡ true) → f k ≡ true
@@ -40,11 +42,7 @@ each-same zero f g e = refl
 each-same (suc n) f g e = rw (each-same n f g (λ k h. e k (omega arith)), e n (omega arith)) refl
 
 pub each-fails : (n : ℕ) (f : ℕ → Bool) (k : ℕ) → k < n → f k ≡ false → each n f ≡ false
-each-fails n f k h e = go (each n f) (λ q. each-at n f q k h)
-  where
-    go : (b : Bool) → (b ≡ true → f k ≡ true) → b ≡ false
-    go true at = absurd (true≢false (sym (at refl) ∙ e))
-    go false at = refl
+each-fails n f k h e = not-yes (each n f) (λ q. true≢false (sym (each-at n f q k h) ∙ e))
 
 pub equal→eq : (x y : ℤ) → equal x y ≡ true → x ≡ y
 equal→eq (pos a) (pos b) e = ap pos (eqb-true a b e)
@@ -60,10 +58,6 @@ equal-self (negsuc a) = eq-eqb a a refl
 pub same-bits : (w : Width) (x y : ℤ) → SFits w x → SFits w y → eqb (ofZ w x) (ofZ w y) ≡ equal x y
 same-bits w x y f g = go (ℤ-discrete x y)
   where
-    unequal : (b : Bool) → (b ≡ true → ⊥) → b ≡ false
-    unequal true h = absurd (h refl)
-    unequal false h = refl
-
     go : Dec (x ≡ y) → eqb (ofZ w x) (ofZ w y) ≡ equal x y
     go (yes e) = rw e (eq-eqb (ofZ w y) (ofZ w y) refl ∙ sym (equal-self y))
-    go (no e) = ne-eqb (ofZ w x) (ofZ w y) (λ q. e (sym (toZ-ofZ f) ∙ ap (toZ w) q ∙ toZ-ofZ g)) ∙ sym (unequal (equal x y) (λ q. e (equal→eq x y q)))
+    go (no e) = ne-eqb (ofZ w x) (ofZ w y) (λ q. e (sym (toZ-ofZ f) ∙ ap (toZ w) q ∙ toZ-ofZ g)) ∙ sym (not-yes (equal x y) (λ q. e (equal→eq x y q)))

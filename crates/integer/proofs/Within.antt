@@ -61,6 +61,10 @@ pub within-size : (z : ℤ) → Within (natAbs z) z
 within-size (pos n) = within-natural n
 within-size (negsuc n) = record { hi = omega arith; lo = omega arith }
 
+pub size-within : {B : ℕ} (z : ℤ) → Within B z → natAbs z ≤ B
+size-within (pos n) w = w .hi
+size-within (negsuc n) w = w .lo
+
 -- a sum of terms, each bounded by its share of B
 unfoldable pub shares : ℕ → (ℕ → ℕ) → ℕ
 shares zero b = b zero

@@ -2,16 +2,17 @@
 use borrow.Author.Tests.{lt-leb, le-leb}
 use mathlib.Core.Bool.{true}
 use mathlib.Core.Path.{_≡_, refl, sym}
-use Prim.Native.Nat.{_-_, _^_, _≤_, _<_}
+use Prim.Native.Nat.{_-_, _^_, _≤_}
 use native.Mathlib.Nat.{pow-zero, pow-suc, lt-of-le-of-lt, mul-le-mul}
 use native.Mathlib.Numerals.{add-one}
 use native.Mathlib.Omega.{arith}
 use lib.Dec.{lit<}
-use lib.IntN.{ℤ, pos, negsuc, natAbs}
-use lib.Signed.{mag}
+use lib.IntN.{pos, natAbs}
 use lib.ListN.{length, getD}
+use mir.Syntax.{w32}
 use mir.Facts.{toZ-ofZ}
 use Rattle.integer.specs.Tests.{each}
+use Rattle.integer.proofs.Within.{fits-within, size-within}
 use Rattle.integer.proofs.Tests.{both, each-fails}
 use Rattle.rounding.specs.Size.{small, sized}
 use Rattle.rounding.proofs.Bounds.{power-small}
@@ -36,16 +37,15 @@ shared-slice-copy-out-magnitude c = omega arith
 magnitude-requires : tie.Need-magnitude-requires Inv-loop μ-loop
 magnitude-requires c κs = tt
 
-magnitude-small : (z : ℤ) → mag z < 2 ^ 31 → natAbs z ≤ 2 ^ 31
-magnitude-small (pos n) h = omega arith
-magnitude-small (negsuc n) h = omega arith
-
 module _ (c : tie.After-magnitude Inv-loop μ-loop) where
   size-is : let l = c .before .before .before in c .magnitude .result ≡ natAbs (getD (l .before .args .c .now) (l .loop .j) (pos 0))
   size-is = rw (toZ-ofZ (record { sfits = c .before .magnitude-arg .given })) at (c .magnitude .ensures)
 
   size-small : c .magnitude .result ≤ 2 ^ 31
-  size-small = let l = c .before .before .before in rw size-is (magnitude-small (getD (l .before .args .c .now) (l .loop .j) (pos 0)) (c .before .magnitude-arg .given))
+  size-small =
+      let l = c .before .before .before in
+      let C = getD (l .before .args .c .now) (l .loop .j) (pos 0) in
+      rw size-is (size-within C (fits-within w32 C (record { sfits = c .before .magnitude-arg .given })))
 
   this-power : c .before .before .before .loop .power ≤ 2 ^ 28
   this-power = let l = c .before .before .before in rw (l .loop .inv .1) (power-small (l .before .args .h) (l .loop .j) (omega arith) (omega arith))

@@ -1,22 +1,20 @@
 -- `piece_vectors::text::number` is safe for every number: the magnitude of a negative one is that of its successor, and 1.
 use borrow.Author.Needs.{needs}
-use borrow.Author.Tests.{ltb-true}
 use mathlib.Core.Path.{_≡_}
-use mathlib.Core.Bool.{true, false, true≢false}
-use Prim.Native.Nat.{ℕ, zero, suc, _^_, _<_}
+use mathlib.Core.Bool.{true}
+use Prim.Native.Nat.{zero, suc, _^_, _<_}
 use native.Mathlib.Nat.{zero-add}
 use native.Mathlib.Omega.{arith}
-use lib.Dec.{T, ltb, lit<}
+use lib.Dec.{T, lit<}
 use lib.IntN.{ℤ, pos, negsuc, natAbs, _+ℤ_, _-ℤ_, +ℤ-one}
 use lib.Signed.{ltZ, nonNeg}
 use mir.Syntax.{w64}
 use mir.Val.{SFits}
-use mir.Facts.{toZ-ofZ}
+use mir.Facts.{toZ-ofZ, fits-le, fits-lit}
+use Rattle.integer.proofs.Within.{fits-within}
+use Rattle.integer.proofs.Magnitude.{not-below, natural-magnitude}
 use Rattle.piece_vectors.proofs.text.number.Statement.{statement}
 use Rattle.piece_vectors.proofs.text.number.Tie as tie
-
-not-below : (n : ℕ) → ltb n 0 ≡ true → ⊥
-not-below n e = omega (arith, ltb-true n 0 e)
 
 -- the successor of a negative number, and what it is below 0 by
 record Below (z : ℤ) : Type 0 where
@@ -40,10 +38,6 @@ below (negsuc (suc n)) f e = from (negsuc (suc n)) (+ℤ-one (negsuc (suc n)))
       natural = rw e tt;
       small = rw (e, zero-add (suc n)) (f .sfits);
     }
-
-natural : (z : ℤ) → SFits w64 z → ltZ z (pos 0) ≡ false → T (nonNeg z) × (natAbs z < 2 ^ 63)
-natural (pos n) f e = (tt, f .sfits)
-natural (negsuc n) f e = absurd (true≢false e)
 
 slice-aggregate-write-all : tie.Need-slice-aggregate-write-all
 slice-aggregate-write-all c = search needs
@@ -74,8 +68,8 @@ print-decimal-requires c κs = search needs
 cast-print-decimal-2 : tie.Need-cast-print-decimal-2
 cast-print-decimal-2 c =
     let b = c .before .before in
-    let k = natural (b .args .z) (b .fits .z) (rw (toZ-ofZ (b .fits .z)) at (c .if1 .left)) in
-    rw (toZ-ofZ (b .fits .z)) (k .0, record { fits = omega (arith, k .1) })
+    let k = natural-magnitude (b .args .z) (rw (toZ-ofZ (b .fits .z)) at (c .if1 .left)) (fits-within w64 (b .args .z) (b .fits .z)) in
+    rw (toZ-ofZ (b .fits .z)) (k .0, fits-le (k .1) (fits-lit tt))
 
 print-decimal-requires-2 : tie.Need-print-decimal-requires-2
 print-decimal-requires-2 c κs = search needs
