@@ -1,8 +1,6 @@
-// One piece in machine integers: its value, trend and total.
+// One piece in machine integers: its value and trend.
 mod curve;
 mod slope;
-mod water;
 
 pub use curve::trend;
 pub use curve::value;
-pub use water::total;

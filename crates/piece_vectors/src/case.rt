@@ -47,7 +47,7 @@ fn answer(h: u64, left: &[i32], right: &[i32], r: u64) {
     if admitted(h, left, right, r) {
         number(piece::value(h, left, right, r), b" ");
         number(piece::trend(h, left, right, r), b" ");
-        number(piece::total(h, left, right), b"\n");
+        number(water::total(h, left, right), b"\n");
     } else {
         io::write_all(1, b"refused\n");
     }

@@ -1,4 +1,4 @@
--- `piece::water::total` meets its contract: the table gives each end's sum, and h times their sum fits.
+-- `water::integral::total` meets its contract: the table gives each end's sum, and h times their sum fits.
 use borrow.Author.Needs.{needs}
 use mathlib.Core.Path.{_≡_, refl, _∙_, ap, ap₂}
 use Prim.Native.Nat.{_+_, _-_, _*_}
@@ -20,9 +20,9 @@ use Rattle.rounding.proofs.Bounds.{sized-within, right-sized}
 use Rattle.half_sum.proofs.Lists.{more-weights, listed-weights}
 use Rattle.half_sum.proofs.Machine.{result-is}
 use Rattle.half_sum.proofs.Tables.{part-entries}
-use Rattle.piece.proofs.water.Recurrence.{sums-by-table}
-use Rattle.piece.proofs.water.total.Statement.{statement}
-use Rattle.piece.proofs.water.total.Tie as tie
+use Rattle.water.proofs.integral.Recurrence.{sums-by-table}
+use Rattle.water.proofs.integral.total.Statement.{statement}
+use Rattle.water.proofs.integral.total.Tie as tie
 
 sub-m : tie.Need-sub-m
 sub-m c = search needs
