@@ -7,3 +7,4 @@ pub mod Within
 pub mod Magnitude
 pub mod Tests
 pub mod Claim
+pub mod Stores

@@ -25,7 +25,7 @@ pub both : {a b : Bool} → a ≡ true → b ≡ true → (a && b) ≡ true
 both {a} {b} p q = rw (p, q)
 
 -- what is not a yes is a no
-not-yes : (b : Bool) → (b ≡ true → ⊥) → b ≡ false
+pub not-yes : (b : Bool) → (b ≡ true → ⊥) → b ≡ false
 not-yes true h = absurd (h refl)
 not-yes false h = refl
 
@@ -36,6 +36,10 @@ each-at (suc n) f e k h = go (ℕ-discrete k n) (each-at n f (both-first (each n
     go : Dec (k ≡ n) → (k < n → f k ≡ true) → f k ≡ true
     go (yes q) ih = rw q (both-second (each n f) (f n) e)
     go (no q) ih = ih (omega arith)
+
+pub each-all : (n : ℕ) (f : ℕ → Bool) → ((k : ℕ) → k < n → f k ≡ true) → each n f ≡ true
+each-all zero f h = refl
+each-all (suc n) f h = both (each-all n f (λ k b. h k (omega arith))) (h n (omega arith))
 
 pub each-same : (n : ℕ) (f g : ℕ → Bool) → ((k : ℕ) → k < n → f k ≡ g k) → each n f ≡ each n g
 each-same zero f g e = refl

@@ -2,8 +2,8 @@
 use borrow.Author.Tests.{ltb-false, leb-false, eqb-false}
 use mathlib.Core.Bool.{Bool, true, false, cond, _||_, true≢false}
 use mathlib.Core.List.{List, [], _∷_, _++_}
-use mathlib.Core.Option.{Option, none, some}
-use mathlib.Core.Path.{_≡_, refl}
+use mathlib.Core.Option.{Option, none, some, Option·some-ne-none, Option·some-injective}
+use mathlib.Core.Path.{_≡_, refl, sym}
 use Prim.Native.Nat.{ℕ, _+_, _≤_, _<_}
 use native.Mathlib.Omega.{arith}
 use lib.Dec.{eqb, leb, ltb}
@@ -21,11 +21,11 @@ found true k now later f e = e
 found false k now later f e = f e
 
 pub first-found : {n : ℕ} (a b : List Cause) → first a ≡ some n → first (a ++ b) ≡ some n
-first-found {n} [] b e = absurd (let z : _≡_ {A = ℕ} 0 1 = cc in omega arith)
+first-found [] b e = absurd (Option·some-ne-none _ (sym e))
 first-found (c ∷ a) b e = found (c .holds) (c .number) (first a) (first (a ++ b)) (first-found a b) e
 
 none-first : (b : Bool) (n : ℕ) (rest : Option ℕ) → cond b (some n) rest ≡ none → (b ≡ false) × (rest ≡ none)
-none-first true n rest e = (cc, cc)
+none-first true n rest e = absurd (Option·some-ne-none _ e)
 none-first false n rest e = (refl, e)
 
 pub first-later : (a b : List Cause) → first a ≡ none → first (a ++ b) ≡ first b
@@ -41,9 +41,25 @@ pub quiet : (cs : List Cause) → first cs ≡ none → Quiet cs
 quiet [] e = tt
 quiet (c ∷ cs) e = let p = none-first (c .holds) (c .number) (first cs) e in (p .0, quiet cs (p .1))
 
+pub silent : (cs : List Cause) → Quiet cs → first cs ≡ none
+silent [] q = refl
+silent (c ∷ cs) q = rw (q .0) (silent cs (q .1))
+
+pub quiet-both : (a b : List Cause) → Quiet a → Quiet b → Quiet (a ++ b)
+quiet-both [] b p q = q
+quiet-both (c ∷ a) b p q = (p .0, quiet-both a b (p .1) q)
+
+pub quiet-left : (a b : List Cause) → Quiet (a ++ b) → Quiet a
+quiet-left [] b q = tt
+quiet-left (c ∷ a) b q = (q .0, quiet-left a b (q .1))
+
+pub quiet-right : (a b : List Cause) → Quiet (a ++ b) → Quiet b
+quiet-right [] b q = q
+quiet-right (c ∷ a) b q = quiet-right a b (q .1)
+
 -- ---- what passes
 
-neither : (a b : Bool) → (a || b) ≡ false → (a ≡ false) × (b ≡ false)
+pub neither : (a b : Bool) → (a || b) ≡ false → (a ≡ false) × (b ≡ false)
 neither true b e = absurd (true≢false e)
 neither false b e = (refl, e)
 
@@ -58,22 +74,16 @@ pub record Placed (last : Option Scan) (x : ℕ) : Type 0 where
   pub above : (held : Scan) → last ≡ some held → held .position < x
   pub near : (held : Scan) → last ≡ some held → gap held x ≤ gapMax
 
-no-scan : (s : Scan) → none ≡ some s → ⊥
-no-scan s e = let z : _≡_ {A = ℕ} 0 1 = cc in omega arith
-
-same-scan : (s t : Scan) → some s ≡ some t → s ≡ t
-same-scan s t e = cc
-
 pub placed : (last : Option Scan) (x : ℕ) → badPosition last x .holds ≡ false → wideGap last x .holds ≡ false → Placed last x
 placed none x p w = record {
   position = ltb-false positionMax x (neither (ltb positionMax x) false p .0);
-  above = λ held e. absurd (no-scan held e);
-  near = λ held e. absurd (no-scan held e);
+  above = λ held e. absurd (Option·some-ne-none _ (sym e));
+  near = λ held e. absurd (Option·some-ne-none _ (sym e));
 }
 placed (some l) x p w =
     let q = neither (ltb positionMax x) (leb x (l .position)) p in
     record {
       position = ltb-false positionMax x (q .0);
-      above = λ held e. rw (same-scan l held e) at (leb-false x (l .position) (q .1));
-      near = λ held e. rw (same-scan l held e) at (ltb-false gapMax (gap l x) w);
+      above = λ held e. rw (Option·some-injective l held e) at (leb-false x (l .position) (q .1));
+      near = λ held e. rw (Option·some-injective l held e) at (ltb-false gapMax (gap l x) w);
     }

@@ -1,1 +1,4 @@
 pub mod Causes
+pub mod Lists
+pub mod Numbers
+pub mod Standing

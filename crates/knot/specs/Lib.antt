@@ -1,4 +1,5 @@
 pub mod Scan
 pub mod SizeRule
+pub mod Standing
 pub mod RefusalTable
 pub mod Machine

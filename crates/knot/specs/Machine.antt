@@ -1,10 +1,10 @@
 -- What the machine's knots and verdicts are in the model.
 use mathlib.Core.Bool.{true, cond}
-use mathlib.Core.List.{List}
+use mathlib.Core.List.{List, [], map}
 use mathlib.Core.Option.{Option, none, some}
 use mathlib.Core.Path.{_≡_}
-use Prim.Native.Nat.{ℕ, _+_, _≤_}
-use lib.ListN.{length, take}
+use Prim.Native.Nat.{ℕ, zero, suc, _+_, _≤_}
+use lib.ListN.{length, take, getD}
 use Rattle.rounding.specs.Limits.{gradeMax, gapMax}
 use Rattle.knot.specs.Scan.{Scan, gap}
 use Rattle.knot.specs.declared.held.Knot.{Knot}
@@ -27,6 +27,13 @@ pub record Graded (k : Knot) : Type 0 where
 pub record Holds (k : Knot) (s : Scan) : Type 0 where
   pub graded : Graded k
   pub is : scan k ≡ s
+
+-- knot k of an array, and the scans of its first n knots
+abbrev pub knotIn : List Knot → ℕ → Knot
+knotIn knots k = getD knots k (record { position = 0; grade = 0; coefficients = [] })
+
+abbrev pub scansIn : ℕ → List Knot → List Scan
+scansIn n knots = map scan (take n knots)
 
 -- the scan of a neighbour
 abbrev pub neighbour : Neighbour → Option Scan
@@ -56,3 +63,12 @@ number Refusals.Output = 10
 abbrev pub refusal : Verdict → Option ℕ
 refusal Verdicts.Passed = none
 refusal (Verdicts.Refused r) = some (number r)
+
+-- the refusal that a number from 0 to 10 stands for; 0 is none
+abbrev pub refusalOf : ℕ → Option ℕ
+refusalOf zero = none
+refusalOf (suc n) = some (suc n)
+
+pub record Numbers (n : ℕ) (found : Option ℕ) : Type 0 where
+  pub known : n ≤ 10
+  pub is : refusalOf n ≡ found

@@ -1,5 +1,5 @@
 -- Document 01, "Refusal table": its rows, each a cause that holds or not, with its number; and the first cause that holds.
--- Rows 1, 7, 8 and 10, and the other half of row 9, belong to calls that do not stand yet.
+-- Rows 7 and 8, and the other half of row 9, belong to calls that do not stand yet.
 use mathlib.Core.Bool.{Bool, false, not, _||_, cond}
 use mathlib.Core.List.{List, [], _∷_}
 use mathlib.Core.Option.{Option, none, some}
@@ -20,6 +20,10 @@ first [] = none
 first (c ∷ cs) = cond (c .holds) (some (c .number)) (first cs)
 
 -- ---- the rows, in the table's order
+
+-- of a block: bytes not a multiple of 4, below 8; wrong kind, edition, spare bits, end count; words missing or over
+abbrev pub badForm : Bool → Cause
+badForm wrong = record { number = 1; holds = wrong }
 
 -- a knot count above 129
 abbrev pub tooMany : ℕ → Cause
@@ -52,6 +56,10 @@ badSize kept = record { number = 6; holds = not kept }
 -- no knot k
 abbrev pub noKnot : ℕ → List Scan → Cause
 noKnot k scans = record { number = 9; holds = leb (length scans) k }
+
+-- output shorter than the block
+abbrev pub shortOutput : ℕ → ℕ → Cause
+shortOutput room size = record { number = 10; holds = ltb room size }
 
 -- ---- the tests
 

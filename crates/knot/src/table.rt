@@ -1,6 +1,7 @@
 // The refusal table: its causes, in its order, and each one's number.
 ghost use mathlib.Core.Path.{_≡_};
-ghost use Rattle.knot.specs.Machine.{number as Machine·number};
+ghost use Prim.Native.Nat.{_≤_};
+ghost use Rattle.knot.specs.Machine.{Numbers, number as Machine·number, refusal};
 
 pub enum Refusal {
     // of a block: its length, a word's kind, the edition, spare bits, the end count, words missing or over
@@ -42,10 +43,41 @@ impl Refusal {
             Refusal::Output => 10,
         }
     }
+
+    // The refusal of a number of the table.
+    pub fn numbered(n: u32) -> Self
+        requires { ⌜ (1 ≤ n) × (n ≤ 10) ⌝ }
+        ensures { λ r. ⌜ Machine·number r ≡ n ⌝ }
+    {
+        match n {
+            1 => Refusal::Form,
+            2 => Refusal::Full,
+            3 => Refusal::List,
+            4 => Refusal::Position,
+            5 => Refusal::Gap,
+            6 => Refusal::Size,
+            7 => Refusal::Outside,
+            8 => Refusal::Few,
+            9 => Refusal::Index,
+            _ => Refusal::Output,
+        }
+    }
 }
 
 // What a test of some causes finds.
 pub enum Verdict {
     Passed,
     Refused(Refusal),
+}
+
+impl Verdict {
+    // The refusal's number; 0 where the test passes.
+    pub fn number(self) -> u32
+        ensures { λ n. ⌜ Numbers n (refusal self) ⌝ }
+    {
+        match self {
+            Verdict::Passed => 0,
+            Verdict::Refused(cause) => cause.number(),
+        }
+    }
 }

@@ -1,4 +1,4 @@
-pub mod Lists
 pub mod Scans
 pub mod Standing
 pub mod Sequences
+pub mod RoundTrips

@@ -1,37 +1,41 @@
 -- The scans of a held reel, knot by knot, and after a store.
 use borrow.Author.Tests.{ltb-true, lt-ltb, le-ltb}
 use mathlib.Core.Bool.{true}
-use mathlib.Core.Logic.{_≢_}
-use mathlib.Core.List.{[], _∷_, _++_}
+use mathlib.Core.List.{List, [], _∷_, _++_}
 use mathlib.Core.Option.{some}
 use mathlib.Core.Path.{_≡_, refl, sym, _∙_, ap}
 use Prim.Native.Nat.{ℕ, zero, suc, _+_, _-_, min, _≤_, _<_}
-use native.Mathlib.Decide.{decLt, ℕ-discrete}
+use native.Mathlib.Decide.{decLt}
 use native.Mathlib.Numerals.{add-one}
 use native.Mathlib.Omega.{arith}
 use lib.Dec.{ltb}
-use lib.ListN.{length, take, set, getElem?, length-map}
-use lib.Seq.{length-take-le, take-suc-set, take-set-lt, getD-take, getD-set-same, getD-set-other}
+use lib.ListN.{length, take, set, getElem?}
+use lib.Seq.{take-set-lt}
 use Rattle.rounding.specs.Limits.{knotsMax, gapMax}
-use Rattle.knot.specs.Scan.{Scan, gap, before, after}
-use Rattle.knot.specs.Machine.{scan, neighbour, Graded}
+use Rattle.knot.specs.Scan.{Scan, gap, at, before, after}
+use Rattle.knot.specs.Machine.{scan, scansIn, neighbour, Graded}
 use Rattle.knot.specs.declared.held.Knot.{Knot}
-use Rattle.reel.specs.Calls.{at}
 use Rattle.reel.specs.Machine.{scans, knotAt, Held}
 use Rattle.reel.specs.declared.calls.Reel.{Reel}
-use Rattle.reel.proofs.Lists.{there, past, map-append-one, map-set, map-at}
+use Rattle.knot.proofs.Lists as Lists
+use Rattle.knot.proofs.Lists.{there, past, map-set, scans-stored}
+
+-- the scans of a reel with these knots
+pub scans-of : (knots : List Knot) (count : ℕ) → scans (record { knots = knots; count = count }) ≡ scansIn count knots
+unfolding scans
+scans-of knots count = refl
 
 module _ (r : Reel) (held : Held r) where
-  length-taken : length (take (r .count) (r .knots)) ≡ r .count
-  length-taken = length-take-le (r .count) (r .knots) (omega (arith, held .room, held .count))
+  room : r .count ≤ length (r .knots)
+  room = omega (arith, held .room, held .count)
 
   pub length-scans : length (scans r) ≡ r .count
   unfolding scans
-  length-scans = length-map (take (r .count) (r .knots)) scan ∙ length-taken
+  length-scans = Lists.length-scans (r .knots) (r .count) room
 
   pub at-scans : (k : ℕ) → k < r .count → at (scans r) k ≡ scan (knotAt r k)
   unfolding scans
-  at-scans k h = map-at scan (take (r .count) (r .knots)) k _ (omega (arith, length-taken)) ∙ ap scan (getD-take (r .count) (r .knots) k _ h)
+  at-scans k h = Lists.at-scans (r .knots) (r .count) room k h
 
   element-is : (k : ℕ) → k < r .count → getElem? (scans r) k ≡ some (scan (knotAt r k))
   element-is k h = there (scans r) k (omega (arith, length-scans)) ∙ ap some (at-scans k h)
@@ -72,18 +76,8 @@ module _ (r : Reel) (held : Held r) where
   -- one knot more, and another one in place k
   pub scans-appended : (k : Knot) → r .count < knotsMax → scans (record { knots = set (r .knots) (r .count) k; count = r .count + 1 }) ≡ scans r ++ scan k ∷ []
   unfolding scans
-  scans-appended k h =
-      rw (add-one (r .count), take-suc-set (r .knots) (r .count) k (omega (arith, held .room))) (map-append-one scan (take (r .count) (r .knots)) k)
+  scans-appended k h = scans-stored (r .knots) (r .count) k (omega (arith, held .room))
 
   pub scans-corrected : (i : ℕ) (k : Knot) → i < r .count → scans (record { knots = set (r .knots) i k; count = r .count }) ≡ set (scans r) i (scan k)
   unfolding scans
   scans-corrected i k h = rw (take-set-lt (r .count) (r .knots) i k h) (map-set scan (take (r .count) (r .knots)) i k)
-
-  -- every knot has a grade of 0 to 7 after a store of one that has
-  pub graded-stored : (i n : ℕ) (k : Knot) → i < knotsMax → Graded k → ((j : ℕ) → j < n → j ≢ i → j < r .count) →
-      (j : ℕ) → j < n → Graded (knotAt (record { knots = set (r .knots) i k; count = n }) j)
-  graded-stored i n k h g others j b = go (ℕ-discrete j i)
-    where
-      go : Dec (j ≡ i) → Graded (knotAt (record { knots = set (r .knots) i k; count = n }) j)
-      go (yes e) = rw (e, getD-set-same (r .knots) i k _ (omega (arith, held .room))) g
-      go (no e) = rw (getD-set-other (r .knots) i j k _ e) (held .graded j (others j b e))

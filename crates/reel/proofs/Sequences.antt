@@ -6,7 +6,7 @@ use mathlib.Core.Path.{_≡_, _∙_, ap}
 use Prim.Native.Nat.{ℕ}
 use lib.IntN.{ℤ}
 use Rattle.knot.specs.Scan.{Scan}
-use Rattle.reel.specs.Calls.{Call, clear, append, correct, replyTo, left}
+use Rattle.reel.specs.Calls.{Call, clear, append, correct, read, write, replyTo, left, output}
 use Rattle.reel.specs.Machine.{scans, Held, Does}
 use Rattle.reel.specs.Sequences.{Run, done, then, EveryCall}
 use Rattle.reel.specs.declared.calls.Reel.{Reel}
@@ -16,32 +16,42 @@ use Rattle.reel.proofs.calls.Reel.empty.Reads as empty-reads
 use Rattle.reel.proofs.calls.Reel.clear.Reads as clear-reads
 use Rattle.reel.proofs.calls.Reel.append.Reads as append-reads
 use Rattle.reel.proofs.calls.Reel.correct.Reads as correct-reads
+use Rattle.reel.proofs.calls.Reel.read.Reads as read-reads
+use Rattle.reel.proofs.calls.Reel.write.Reads as write-reads
 
 -- what one call does, as far as its function's contract says: if what it requires holds, then what it ensures does
-pub data Called : Call → Reel → Answer → Reel → Type 0 where
+pub data Called : Call → Reel → Answer → Reel → List ℕ → Type 0 where
   by-clear : (given : Reel) (handed : Handed) →
       (clear-reads.Pre tt (given, tt) → clear-reads.Post tt (given, tt) handed (given, tt)) →
-      Called clear given (handed .answer) (handed .reel)
+      Called clear given (handed .answer) (handed .reel) []
   by-append : (κs : Lfts 1) (given : Reel) (x : ℕ) (C : RefT (List ℤ)) (handed : Handed) →
       (append-reads.Pre κs (given, (x, (C, tt))) → append-reads.Post κs (given, (x, (C, tt))) handed (given, (x, (C, tt)))) →
-      Called (append x (now C)) given (handed .answer) (handed .reel)
+      Called (append x (now C)) given (handed .answer) (handed .reel) []
   by-correct : (κs : Lfts 1) (given : Reel) (k : ℕ) (C : RefT (List ℤ)) (handed : Handed) →
       (correct-reads.Pre κs (given, (k, (C, tt))) → correct-reads.Post κs (given, (k, (C, tt))) handed (given, (k, (C, tt)))) →
-      Called (correct k (now C)) given (handed .answer) (handed .reel)
+      Called (correct k (now C)) given (handed .answer) (handed .reel) []
+  by-read : (κs : Lfts 1) (given : Reel) (bytes : RefT (List ℕ)) (handed : Handed) →
+      (read-reads.Pre κs (given, (bytes, tt)) → read-reads.Post κs (given, (bytes, tt)) handed (given, (bytes, tt))) →
+      Called (read (now bytes)) given (handed .answer) (handed .reel) []
+  by-write : (κs : Lfts 1) (given : Reel) (out after : RefT (List ℕ)) (handed : Handed) →
+      (write-reads.Pre κs (given, (out, tt)) → write-reads.Post κs (given, (out, tt)) handed (given, (after, tt))) →
+      Called (write (now out)) given (handed .answer) (handed .reel) (now after)
 
 -- each contract is `Does` of its call
-called-does : {call : Call} {given : Reel} {answer : Answer} {handed : Reel} → Called call given answer handed → Held given → Does call given answer handed
+called-does : {call : Call} {given : Reel} {answer : Answer} {handed : Reel} {out : List ℕ} → Called call given answer handed out → Held given → Does call given answer handed out
 called-does (by-clear given handed contract) held = contract held
 called-does (by-append κs given x C handed contract) held = contract held
 called-does (by-correct κs given k C handed contract) held = contract held
+called-does (by-read κs given bytes handed contract) held = contract held
+called-does (by-write κs given out after handed contract) held = contract held
 
 -- from any held reel
 from-held : {given : Reel} {calls : List Call} (run : Run Called given calls) (standing : List Scan) → Held given → scans given ≡ standing → EveryCall run standing
 from-held done standing held e = tt
-from-held (then {call = call} answer handed called run) standing held e =
+from-held (then {call = call} answer handed out called run) standing held e =
     let does = called-does called held in
     let leaves : scans handed ≡ left call standing = does .leaves ∙ ap (left call) e in
-    (record { replies = does .replies ∙ ap (replyTo call) e; leaves = leaves }, from-held run (left call standing) (does .held) leaves)
+    (record { replies = does .replies ∙ ap (replyTo call) e; leaves = leaves; writes = does .writes ∙ ap (output call) e }, from-held run (left call standing) (does .held) leaves)
 
 -- from the reel that `Reel::empty` hands over
 pub sequences : {begin : Reel} {calls : List Call} → empty-reads.Post tt tt begin tt → (run : Run Called begin calls) → EveryCall run []

@@ -1,28 +1,30 @@
--- Document 01, "The reel" and "Refusal table": what each call answers and leaves, of the scans that stand.
+-- Document 01, "The reel", "Refusal table" and "Sequences and standing scans": what each call answers and leaves, of the scans that
+-- stand.
+use mathlib.Core.Bool.{Bool, true, false}
 use mathlib.Core.List.{List, [], _∷_, _++_}
 use mathlib.Core.Option.{Option, none, some}
 use Prim.Native.Nat.{ℕ, _+_}
 use lib.IntN.{ℤ, pos}
-use lib.ListN.{length, getD, set}
-use Rattle.knot.specs.Scan.{Scan, scanOf, before, after}
+use lib.ListN.{length, set}
+use Rattle.knot.specs.Scan.{Scan, scanOf, at, before, after}
 use Rattle.knot.specs.SizeRule.{sizeRule}
-use Rattle.knot.specs.RefusalTable.{Cause, first, tooMany, badSize, noKnot, listCauses, positionCauses, sizeCauses}
+use Rattle.knot.specs.RefusalTable.{Cause, first, tooMany, badSize, noKnot, shortOutput, listCauses, positionCauses, sizeCauses}
+use Rattle.block.specs.Block.{block, written}
+use Rattle.block.specs.Reading.{blockCauses, listOf}
 
--- a call of a sequence, with its arguments
+-- a call of a sequence, with its arguments: of read the bytes of its block, of write those of the lent output as they are before
 pub data Call : Type 0 where
   clear : Call
   append : ℕ → List ℤ → Call
   correct : ℕ → List ℤ → Call
+  read : List ℕ → Call
+  write : List ℕ → Call
 
 -- what a call answers: that it is accepted, a number, or the number of a refusal
 pub data Reply : Type 0 where
   accepted : Reply
   number : ℤ → Reply
   refused : ℕ → Reply
-
--- scan k of the list, counted from 0
-abbrev pub at : List Scan → ℕ → Scan
-at scans k = getD scans k (scanOf 0 [])
 
 -- scan k with other coefficients: its position stays
 abbrev pub corrected : List Scan → ℕ → List ℤ → Scan
@@ -36,29 +38,67 @@ causes (append x C) scans =
     tooMany (length scans + 1) ∷ listCauses (length C) ++ positionCauses last x ++ sizeCauses last (scanOf x C)
 causes (correct k C) scans =
     noKnot k scans ∷ listCauses (length C) ++ badSize (sizeRule (before scans k) (corrected scans k C) (after scans k)) ∷ []
+causes (read bytes) scans = blockCauses bytes
+causes (write out) scans = shortOutput (length out) (length (block scans)) ∷ []
 
 -- the list as an accepted call leaves it
 abbrev pub changed : Call → List Scan → List Scan
 changed clear scans = []
 changed (append x C) scans = scans ++ scanOf x C ∷ []
 changed (correct k C) scans = set scans k (corrected scans k C)
+changed (read bytes) scans = listOf bytes
+changed (write out) scans = scans
+
+-- the calls that change it
+abbrev pub changes : Call → Bool
+changes clear = true
+changes (append x C) = true
+changes (correct k C) = true
+changes (read bytes) = true
+changes (write out) = false
+
+-- what an accepted call answers
+abbrev pub says : Call → List Scan → Reply
+says clear scans = accepted
+says (append x C) scans = accepted
+says (correct k C) scans = accepted
+says (read bytes) scans = accepted
+says (write out) scans = number (pos (length (block scans)))
+
+-- the lent output, before an accepted call and after it; no bytes where nothing is lent
+abbrev pub lent : Call → List ℕ
+lent clear = []
+lent (append x C) = []
+lent (correct k C) = []
+lent (read bytes) = []
+lent (write out) = out
+
+abbrev pub filled : Call → List Scan → List ℕ
+filled clear scans = []
+filled (append x C) scans = []
+filled (correct k C) scans = []
+filled (read bytes) scans = []
+filled (write out) scans = written scans out
 
 -- if a cause holds, the first one's number; if none does, the answer of an accepted call
 abbrev pub answered : Option ℕ → Reply → Reply
 answered none reply = reply
 answered (some n) reply = refused n
 
--- if a cause holds, the list stays as it was
-abbrev pub kept : Option ℕ → List Scan → List Scan → List Scan
-kept none scans new = new
-kept (some n) scans new = scans
+-- if a cause holds, the list and a lent output stay as they were
+abbrev pub kept : {A : Type 0} → Option ℕ → A → A → A
+kept none old new = new
+kept (some n) old new = old
 
--- what a call answers, and the list it leaves
+-- what a call answers, the list it leaves, and what then stands in the output
 unfoldable pub replyTo : Call → List Scan → Reply
-replyTo call scans = answered (first (causes call scans)) accepted
+replyTo call scans = answered (first (causes call scans)) (says call scans)
 
 unfoldable pub left : Call → List Scan → List Scan
 left call scans = kept (first (causes call scans)) scans (changed call scans)
+
+unfoldable pub output : Call → List Scan → List ℕ
+output call scans = kept (first (causes call scans)) (lent call) (filled call scans)
 
 -- not a call of the sequences: the position of scan k
 unfoldable pub positionOf : ℕ → List Scan → Reply

@@ -1,5 +1,4 @@
 pub mod Calls
 pub mod Same
-pub mod Standing
 pub mod Machine
 pub mod Sequences

@@ -1,25 +1,28 @@
 -- The machine's reel and answers in the model, the invariant of a held reel, and what each call promises.
-use mathlib.Core.List.{List, [], map}
+use mathlib.Core.Bool.{false}
+use mathlib.Core.List.{List}
+use mathlib.Core.Option.{none}
 use mathlib.Core.Path.{_≡_}
 use Prim.Native.Nat.{ℕ, _≤_, _<_}
-use lib.ListN.{length, take, getD}
+use lib.ListN.{length}
 use Rattle.rounding.specs.Limits.{knotsMax, gradeMax, gapMax, sizeMax}
 use Rattle.knot.specs.Scan.{Scan}
-use Rattle.knot.specs.Machine.{scan, Graded, number as refusalNumber}
+use Rattle.knot.specs.Standing.{Standing}
+use Rattle.knot.specs.RefusalTable.{first}
+use Rattle.knot.specs.Machine.{Graded, knotIn, scansIn, number as refusalNumber}
 use Rattle.knot.specs.declared.held.Knot.{Knot}
-use Rattle.reel.specs.Calls.{Call, Reply, accepted, number, refused, replyTo, left}
-use Rattle.reel.specs.Standing.{Standing}
+use Rattle.reel.specs.Calls.{Call, Reply, accepted, number, refused, causes, changes, replyTo, left, output}
 use Rattle.reel.specs.declared.calls.Reel.{Reel}
 use Rattle.reel.specs.declared.answer.Answer.{Answer}
 use Rattle.reel.specs.declared.answer.Answer.the-variants as Answers
 
 -- the scans of a reel: those of its first `count` knots, the others being free
 unfoldable pub scans : Reel → List Scan
-scans r = map scan (take (r .count) (r .knots))
+scans r = scansIn (r .count) (r .knots)
 
 -- knot k of the array
 abbrev pub knotAt : Reel → ℕ → Knot
-knotAt r k = getD (r .knots) k (record { position = 0; grade = 0; coefficients = [] })
+knotAt r k = knotIn (r .knots) k
 
 -- the invariant of a held reel: room for 129 knots, a grade of 0 to 7 at each that stands, and scans that can stand
 pub record Held (r : Reel) : Type 0 where
@@ -41,12 +44,14 @@ replyOf Answers.Accepted = accepted
 replyOf (Answers.Number z) = number z
 replyOf (Answers.Refused cause) = refused (refusalNumber cause)
 
--- what every call promises, of the reel it gets, its answer and the reel it hands back
-pub record Does (call : Call) (given : Reel) (answer : Answer) (handed : Reel) : Type 0 where
+-- what every call promises, of the reel it gets, its answer, the reel it hands back and the lent output as it leaves it
+pub record Does (call : Call) (given : Reel) (answer : Answer) (handed : Reel) (out : List ℕ) : Type 0 where
   -- the reply is the model's on the scans given
   pub replies : replyOf answer ≡ replyTo call (scans given)
   -- the scans left are the model's
   pub leaves : scans handed ≡ left call (scans given)
   pub held : Held handed
-  -- a refused call hands back the very reel it was given
-  pub kept : (n : ℕ) → replyTo call (scans given) ≡ refused n → handed ≡ given
+  -- a refused call, and one that changes nothing, hands back the very reel it was given
+  pub kept : (first (causes call (scans given)) ≡ none → changes call ≡ false) → handed ≡ given
+  -- all bytes of the output are the model's
+  pub writes : out ≡ output call (scans given)

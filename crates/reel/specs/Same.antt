@@ -4,8 +4,7 @@ use mathlib.Core.List.{List}
 use lib.Dec.{eqb}
 use lib.ListN.{length}
 use Rattle.integer.specs.Tests.{each, equal}
-use Rattle.knot.specs.Scan.{Scan, moisture}
-use Rattle.reel.specs.Calls.{at}
+use Rattle.knot.specs.Scan.{Scan, at, moisture}
 
 -- the position and C_0 of two scans agree
 abbrev pub agree : Scan → Scan → Bool

@@ -3,7 +3,7 @@ ghost use mathlib.Core.List.{[]};
 ghost use mathlib.Core.Path.{_≡_};
 ghost use lib.ListN.{length};
 ghost use Rattle.knot.specs.Machine.{Graded, scan};
-ghost use Rattle.reel.specs.Calls.{append as Calls·append, clear as Calls·clear, correct as Calls·correct, positionOf};
+ghost use Rattle.reel.specs.Calls.{append as Calls·append, clear as Calls·clear, correct as Calls·correct, positionOf, read as Calls·read, write as Calls·write};
 ghost use Rattle.reel.specs.Machine.{AreTheLimits, Does, Held, replyOf, scans};
 ghost use Rattle.reel.specs.Same.{agree as Same·agree, same as Same·same};
 use crate::answer::Answer;
@@ -54,7 +54,7 @@ impl Reel {
     // The empty list.
     pub fn clear(mut self) -> Handed
         requires { ⌜ Held self ⌝ }
-        ensures { λ r. ⌜ Does Calls·clear self (r .answer) (r .reel) ⌝ }
+        ensures { λ r. ⌜ Does Calls·clear self (r .answer) (r .reel) [] ⌝ }
     {
         self.count = 0;
         Handed {
@@ -66,7 +66,7 @@ impl Reel {
     // The list with one knot more at its end: 2, 3, the position test, the size test.
     pub fn append(mut self, position: u32, coefficients: &[i32]) -> Handed
         requires { ⌜ Held self ⌝ }
-        ensures { λ r. ⌜ Does (Calls·append position (now (coefficients .entry))) self (r .answer) (r .reel) ⌝ }
+        ensures { λ r. ⌜ Does (Calls·append position (now (coefficients .entry))) self (r .answer) (r .reel) [] ⌝ }
     {
         let count = self.count;
         if KNOTS_MAX <= count {
@@ -111,7 +111,7 @@ impl Reel {
     // Knot k with other coefficients: 9, 3, then the size rule at each gap beside the knot.
     pub fn correct(mut self, k: u32, coefficients: &[i32]) -> Handed
         requires { ⌜ Held self ⌝ }
-        ensures { λ r. ⌜ Does (Calls·correct k (now (coefficients .entry))) self (r .answer) (r .reel) ⌝ }
+        ensures { λ r. ⌜ Does (Calls·correct k (now (coefficients .entry))) self (r .answer) (r .reel) [] ⌝ }
     {
         let count = self.count;
         let at = k as usize;
@@ -151,6 +151,48 @@ impl Reel {
         Handed {
             reel: self,
             answer: Answer::Accepted,
+        }
+    }
+
+    // The list of a block; or the number of its first fault.
+    pub fn read(mut self, bytes: &[u8]) -> Handed
+        requires { ⌜ Held self ⌝ }
+        ensures { λ r. ⌜ Does (Calls·read (now (bytes .entry))) self (r .answer) (r .reel) [] ⌝ }
+    {
+        let contents = block_reader::read(bytes);
+        let refusal = contents.refusal;
+        if refusal != 0 {
+            return Handed {
+                reel: self,
+                answer: Answer::Refused(Refusal::numbered(refusal)),
+            };
+        }
+        let knots = contents.knots;
+        self.knots = knots;
+        self.count = contents.count;
+        Handed {
+            reel: self,
+            answer: Answer::Accepted,
+        }
+    }
+
+    // The block of the list into a lent output: the number of its bytes; 10 where the output is shorter, which then stays as it was.
+    pub fn write(self, out: &mut [u8]) -> Handed
+        requires { ⌜ Held self ⌝ }
+        ensures { λ r. ⌜ Does (Calls·write (now (out .entry))) self (r .answer) (r .reel) (now (out .exit)) ⌝ }
+    {
+        let knots = self.knots;
+        let count = self.count;
+        if out.len() < block_writer::length(knots, count) {
+            return Handed {
+                reel: self,
+                answer: Answer::Refused(Refusal::Output),
+            };
+        }
+        let size = block_writer::write(knots, count, out);
+        Handed {
+            reel: self,
+            answer: Answer::Number(size as i64),
         }
     }
 

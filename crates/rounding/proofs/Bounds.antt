@@ -1,10 +1,10 @@
 -- How large the numbers of a piece can get: laws about the definitions, from which everything fits in 64 bits.
-use borrow.Author.Tests.{leb-true}
+use borrow.Author.Tests.{le-leb, leb-true}
 use mathlib.Core.Bool.{true}
 use mathlib.Core.Path.{_≡_, refl}
 use mathlib.Core.List.{List}
 use Prim.Native.Nat.{ℕ, zero, suc, _+_, _*_, _-_, _^_, _≤_, _<_}
-use native.Mathlib.Nat.{pow-le-pow-left, pow-le-pow-right, le-trans, mul-le-mul-left, mul-le-mul-right, div-le-of-le-mul, div-lt-iff-lt-mul}
+use native.Mathlib.Nat.{pow-le-pow-left, pow-le-pow-right, one-le-pow, le-trans, le-mul-of-pos-right, mul-le-mul-left, mul-le-mul-right, div-le-of-le-mul, div-lt-iff-lt-mul}
 use native.Mathlib.Decide.{decLt}
 use native.Mathlib.Omega.{arith}
 use lib.Dec.{lit<, lit≤}
@@ -12,7 +12,7 @@ use lib.IntN.{ℤ, pos, negsuc, _*ℤ_, natAbs, zero-*ℤ}
 use lib.ListN.{length, getD, List·getD-eq-default}
 use Rattle.integer.specs.Sum.{sum}
 use Rattle.integer.specs.Within.{Within}
-use Rattle.integer.proofs.Tests.{each-at}
+use Rattle.integer.proofs.Tests.{each-at, each-all}
 use Rattle.integer.proofs.Claim.{_≗_, upto, sound}
 use Rattle.integer.proofs.Within.{shares, within-sum, within-more, within-add, within-mul, within-neg, within-natural, within-size}
 use Rattle.hermite.specs.Binomial.{binomial, sign}
@@ -70,6 +70,16 @@ sized-within h C j e = go (decLt j (length C))
 pub right-sized : (h : ℕ) (C : List ℤ) (j : ℕ) → sized h C ≡ true → Within sizeMax (rightWeights (weight h C) j)
 unfolding rightWeights
 right-sized h C j e = within-mul (sign j) (weight h C j) (sign-within j) (sized-within h C j e)
+
+-- the size rule at a gap of one step or more gives it at one, and so a bound on the coefficients themselves
+pub sized-one : (h : ℕ) (C : List ℤ) → 1 ≤ h → sized h C ≡ true → sized 1 C ≡ true
+unfolding sized
+sized-one h C b e = each-all (length C) (small 1 C) (λ j l. le-leb _ _ (le-trans (mul-le-mul-left (natAbs (getD C j (pos 0))) (pow-le-pow-left b j)) (leb-true _ _ (each-at (length C) (small h C) e j l))))
+
+pub one-within : (C : List ℤ) → sized 1 C ≡ true → (j : ℕ) → j < length C → Within sizeMax (getD C j (pos 0))
+unfolding sized
+one-within C e j l =
+    within-more (le-trans (le-mul-of-pos-right _ (one-le-pow j 1 (omega arith))) (leb-true _ _ (each-at (length C) (small 1 C) e j l))) (within-size (getD C j (pos 0)))
 
 -- ---- the half-sum
 

@@ -3,7 +3,7 @@ use borrow.Author.Needs.{needs}
 use mathlib.Core.Bool.{true}
 use mathlib.Core.List.{_∷_, [], _++_}
 use mathlib.Core.Option.{Option, none}
-use mathlib.Core.Path.{_≡_, sym, _∙_, ap}
+use mathlib.Core.Path.{_≡_, refl, sym, _∙_, ap}
 use Prim.Native.Nat.{ℕ, _+_, _≤_, _<_}
 use native.Mathlib.Omega.{arith}
 use lib.Dec.{ltb}
@@ -14,9 +14,10 @@ use Rattle.knot.specs.RefusalTable.{first, listCauses, positionCauses, sizeCaus
 use Rattle.knot.specs.Machine.{Graded, neighbour, refusal, scan}
 use Rattle.knot.specs.declared.table.Refusal.the-variants as Refusals
 use Rattle.knot.proofs.Causes.{first-found, first-later, quiet, listed, Placed, placed}
+use Rattle.knot.proofs.Lists.{graded-stored}
 use Rattle.reel.specs.Calls.{append, causes}
 use Rattle.reel.specs.Machine.{scans, knotAt}
-use Rattle.reel.proofs.Scans.{before-is, before-graded, scans-appended, graded-stored}
+use Rattle.reel.proofs.Scans.{before-is, before-graded, scans-appended}
 use Rattle.reel.proofs.calls.Causes.{full, append-list, append-rest}
 use Rattle.reel.proofs.calls.Promises.{refuses, accepts}
 use Rattle.reel.proofs.calls.Reel.append.Statement.{statement}
@@ -172,10 +173,10 @@ returns-5 c =
     let next = t .before .of in
     let p = t .before .before .before .before in
     let b = start p in
-    accepts _ (b .args .t1) _ (b .pre) (sizes t ∙ ap refusal (c .enum-told3 .given .1))
+    accepts _ (b .args .t1) _ (b .pre) (sizes t ∙ ap refusal (c .enum-told3 .given .1)) refl refl refl
     (scans-appended (b .args .t1) (b .pre) (next .result) (room p) ∙ ap (λ s. scans (b .args .t1) ++ s ∷ []) (next .ensures .is))
     (length-set (b .args .t1 .knots) (b .args .t1 .count) _ ∙ b .pre .room) (omega (arith, room p))
-    (graded-stored (b .args .t1) (b .pre) (b .args .t1 .count) (b .args .t1 .count + 1) (next .result) (room p) (next .ensures .graded) (λ j h e. omega arith))
+    (graded-stored (b .args .t1 .knots) (b .args .t1 .count) (b .args .t1 .count + 1) (next .result) (omega (arith, room p, b .pre .room)) (next .ensures .graded) (λ j h e. b .pre .graded j (omega arith)))
 
 pub append-spec : {M : Type 1} → statement M
 append-spec =

@@ -2,7 +2,7 @@
 use borrow.Author.Tests.{not-true, not-false}
 use mathlib.Core.Bool.{cond, not}
 use mathlib.Core.Option.{Option, none, some}
-use mathlib.Core.Path.{_≡_, sym, _∙_, ap}
+use mathlib.Core.Path.{_≡_, refl, sym, _∙_, ap}
 use Prim.Native.Nat.{_+_}
 use native.Mathlib.Omega.{arith}
 use lib.Dec.{ltb}
@@ -13,9 +13,10 @@ use Rattle.knot.specs.RefusalTable.{first, listCauses}
 use Rattle.knot.specs.Machine.{neighbour, refusal, scan}
 use Rattle.knot.specs.declared.table.Refusal.the-variants as Refusals
 use Rattle.knot.proofs.Causes.{quiet, listed}
+use Rattle.knot.proofs.Lists.{graded-stored}
 use Rattle.reel.specs.Calls.{correct, causes}
 use Rattle.reel.specs.Machine.{scans, knotAt}
-use Rattle.reel.proofs.Scans.{at-scans, before-is, after-is, gap-before, gap-after, scans-corrected, graded-stored}
+use Rattle.reel.proofs.Scans.{at-scans, before-is, after-is, gap-before, gap-after, scans-corrected}
 use Rattle.reel.proofs.calls.Causes.{no-knot, correct-list, correct-size}
 use Rattle.reel.proofs.calls.Promises.{refuses, accepts}
 use borrow.Author.Needs.{needs}
@@ -133,12 +134,12 @@ returns-4 : tie.Need-returns-4
 returns-4 c =
     let f = c .before .before in
     let b = start f in
-    accepts _ (b .args .t1) _ (b .pre) (rw (not-false (c .before .size-rule .result) (c .if2 .left)) at (sizes (c .before)))
+    accepts _ (b .args .t1) _ (b .pre) (rw (not-false (c .before .size-rule .result) (c .if2 .left)) at (sizes (c .before))) refl refl refl
     (scans-corrected (b .args .t1) (b .pre) (b .args .k) (f .before .before .before .before .of .result) (omega arith) ∙
     ap (λ s. set (scans (b .args .t1)) (b .args .k) s)
     (f .before .before .before .before .of .ensures .is ∙ ap (λ s. scanOf (s .position) (b .args .coefficients .now)) (sym (at-scans (b .args .t1) (b .pre) (b .args .k) (omega arith)))))
     (length-set (b .args .t1 .knots) (b .args .k) _ ∙ b .pre .room) (b .pre .count)
-    (graded-stored (b .args .t1) (b .pre) (b .args .k) (b .args .t1 .count) (f .before .before .before .before .of .result) (omega arith) (f .before .before .before .before .of .ensures .graded) (λ j h e. h))
+    (graded-stored (b .args .t1 .knots) (b .args .k) (b .args .t1 .count) (f .before .before .before .before .of .result) (omega (arith, b .pre .room, b .pre .count)) (f .before .before .before .before .of .ensures .graded) (λ j h e. b .pre .graded j h))
 
 pub correct-spec : {M : Type 1} → statement M
 correct-spec =

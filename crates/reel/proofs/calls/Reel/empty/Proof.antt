@@ -2,7 +2,7 @@
 use mathlib.Core.Path.{refl}
 use native.Mathlib.Omega.{arith}
 use Rattle.reel.specs.Machine.{scans}
-use Rattle.reel.proofs.Standing.{standing-none}
+use Rattle.knot.proofs.Standing.{standing-none}
 use Rattle.reel.proofs.calls.Reel.empty.Statement.{statement}
 use Rattle.reel.proofs.calls.Reel.empty.Tie as tie
 

@@ -6,9 +6,8 @@ use Prim.Native.Nat.{ℕ, suc, _≤_, _<_}
 use lib.ListN.{length}
 use Rattle.rounding.specs.Limits.{knotsMax, positionMax, gapMax}
 use Rattle.rounding.specs.Size.{Listed}
-use Rattle.knot.specs.Scan.{Scan, leftList, rightList, gap, before, after}
+use Rattle.knot.specs.Scan.{Scan, leftList, rightList, gap, at, before, after}
 use Rattle.knot.specs.SizeRule.{sizeRule}
-use Rattle.reel.specs.Calls.{at}
 
 pub record Standing (scans : List Scan) : Type 0 where
   -- 0 to 129 knots

@@ -1,0 +1,5 @@
+pub mod Chain
+pub mod Reading
+pub mod ReadBack
+pub mod Written
+pub mod RoundTrips

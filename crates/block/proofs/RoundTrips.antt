@@ -1,0 +1,132 @@
+-- Demand 2: a written block read back gives the same scans, and an accepted block written again gives the same bytes.
+use borrow.Author.Tests.{le-ltb, eq-eqb, eqb-true, not-false}
+use mathlib.Core.Bool.{true, not, true≢false}
+use mathlib.Core.List.{List, [], _∷_, _++_, map, append-assoc}
+use mathlib.Core.Option.{Option, none, some}
+use mathlib.Core.Path.{_≡_, refl, sym, _∙_, ap, ap₂, subst, subst₂}
+use Prim.Native.Nat.{ℕ, zero, suc, _+_, _*_, _%_, _^_, _≤_, _<_}
+use native.Mathlib.Nat.{mul-mod-right}
+use native.Mathlib.Omega.{arith}
+use lib.Dec.{eqb}
+use lib.ListN.{length, take, drop, length-append, take-append-drop}
+use Rattle.integer.proofs.Tests.{both, both-first, both-second}
+use Rattle.rounding.specs.Limits.{knotsMax}
+use Rattle.knot.specs.Scan.{Scan, grade as Scan·grade}
+use Rattle.knot.specs.Standing.{Standing}
+use Rattle.knot.specs.RefusalTable.{first}
+use Rattle.knot.proofs.Causes.{Quiet, silent, quiet-both}
+use Rattle.word.specs.Fields.{kind, knotCount, edition, headerSpare, headerWord, position, grade, knotWord, payload, coefficientWord, wordsBefore, endWord}
+use Rattle.word.specs.Bytes.{words, bytes, Below}
+use Rattle.block.specs.Block.{editionNow, scanWords, knotsWords, openWords, blockWords, block}
+use Rattle.block.specs.Reading.{isCoefficient, isEnd, lengthCauses, headerCauses, coefficientCauses, endCauses, scanFrom, knotsCauses, wordsCauses, blockCauses, knotsFrom, listOfWords, listOf}
+use Rattle.word.proofs.Fields.{header-count, header-edition, header-spare, header-kind, header-again, knot-again, coefficient-again, end-again}
+use Rattle.word.proofs.Bytes.{below-both, bytes-again, length-bytes, words-again}
+use Rattle.block.proofs.Reading.{Header, Taken, taken, read-grade, Accepted, accepted}
+use Rattle.block.proofs.Chain.{chain}
+use Rattle.block.proofs.ReadBack.{knots-quiet, knots-back, knots-below}
+use Rattle.block.proofs.Written.{knots-length}
+
+-- ---- an accepted block written again
+
+coefficients-again : (n : ℕ) (ws : List ℕ) → Quiet (coefficientCauses n ws) → map coefficientWord (map payload (take n ws)) ≡ take n ws
+coefficients-again zero ws q = refl
+coefficients-again (suc n) [] q = refl
+coefficients-again (suc n) (w ∷ ws) q =
+    ap₂ (λ u us. u ∷ us) (coefficient-again w (eqb-true (kind w) 2 (not-false (isCoefficient w) (q .0)))) (coefficients-again n ws (q .1))
+
+-- each knot's words, then those after them
+scan-again : {b n : ℕ} {last : Option Scan} (w : ℕ) (ws : List ℕ) → Taken b n last w ws → scanWords (scanFrom w ws) ++ drop (grade w + 1) ws ≡ w ∷ ws
+scan-again w ws t =
+    let same : Scan·grade (scanFrom w ws) ≡ grade w = omega (arith, read-grade w ws (t .coefficients)) in
+    ap₂ (λ u us. u ∷ us) (ap (knotWord (position w)) same ∙ knot-again w (t .kindIs) (t .spareIs))
+    (ap (λ us. us ++ drop (grade w + 1) ws) (coefficients-again (grade w + 1) ws (t .coefficients)) ∙ take-append-drop (grade w + 1) ws)
+
+end-word-again : (b : ℕ) (ws : List ℕ) → Quiet (endCauses b ws) → endWord b ∷ [] ≡ ws
+end-word-again b [] q = absurd (true≢false (q .0))
+end-word-again b (w ∷ []) q =
+    let form : isEnd b w ≡ true = not-false (isEnd b w) (q .0) in
+    let kindIs : kind w ≡ 3 = eqb-true (kind w) 3 (both-first (eqb (kind w) 3) _ form) in
+    let beforeIs : wordsBefore w ≡ b = eqb-true (wordsBefore w) b (both-second (eqb (kind w) 3) _ form) in
+    ap (λ u. u ∷ []) (ap endWord (sym beforeIs) ∙ end-again w kindIs)
+end-word-again b (w ∷ v ∷ ws) q = absurd (true≢false (q .0))
+
+knots-again : (b n : ℕ) (last : Option Scan) (ws : List ℕ) → Quiet (knotsCauses b n last ws) → knotsWords (knotsFrom n ws) ++ endWord b ∷ [] ≡ ws
+knots-again b zero last ws q = end-word-again b ws q
+knots-again b (suc n) last [] q = absurd (true≢false (q .0))
+knots-again b (suc n) last (w ∷ ws) q =
+    let t : Taken b n last w ws = taken b n last w ws q in
+    let ih : knotsWords (knotsFrom n (drop (grade w + 1) ws)) ++ endWord b ∷ [] ≡ drop (grade w + 1) ws = knots-again b n (some (scanFrom w ws)) (drop (grade w + 1) ws) (t .later) in
+    append-assoc (scanWords (scanFrom w ws)) (knotsWords (knotsFrom n (drop (grade w + 1) ws))) (endWord b ∷ []) ∙ ap (λ us. scanWords (scanFrom w ws) ++ us) ih ∙ scan-again w ws t
+
+knots-count : (b n : ℕ) (last : Option Scan) (ws : List ℕ) → Quiet (knotsCauses b n last ws) → length (knotsFrom n ws) ≡ n
+knots-count b zero last ws q = refl
+knots-count b (suc n) last [] q = absurd (true≢false (q .0))
+knots-count b (suc n) last (w ∷ ws) q = ap suc (knots-count b n (some (scanFrom w ws)) (drop (grade w + 1) ws) (taken b n last w ws q .later))
+
+block-again : (w : ℕ) (ws : List ℕ) → Header w → Quiet (knotsCauses (length ws) (knotCount w) none ws) → blockWords (knotsFrom (knotCount w) ws) ≡ w ∷ ws
+block-again w ws h q =
+    let scans : List Scan = knotsFrom (knotCount w) ws in
+    let again : knotsWords scans ++ endWord (length ws) ∷ [] ≡ ws = knots-again (length ws) (knotCount w) none ws q in
+    let count : length scans ≡ knotCount w = knots-count (length ws) (knotCount w) none ws q in
+    let long : length (openWords scans) ≡ length ws = omega (arith, length-append (knotsWords scans) (endWord (length ws) ∷ []), ap length again) in
+    ap₂ (λ u us. u ∷ us) (ap₂ headerWord count (sym (h .editionIs)) ∙ header-again w (h .kindIs) (h .spareIs))
+    (ap (λ n. knotsWords scans ++ endWord n ∷ []) long ∙ again)
+
+-- the block of an accepted block's list is that block
+pub accepted-written : (bs : List ℕ) → Below (2 ^ 8) bs → first (blockCauses bs) ≡ none → block (listOf bs) ≡ bs
+unfolding block listOf
+accepted-written bs h e =
+    let a : Accepted bs = accepted bs e in
+    ap (λ ws. bytes (blockWords (listOfWords ws))) (a .wordsAre) ∙ ap bytes (block-again (a .head) (a .others) (a .header) (a .knots) ∙ sym (a .wordsAre)) ∙
+    bytes-again bs (a .bytesFit) h
+
+-- ---- a written block read back
+
+length-quiet : (n : ℕ) → 2 ≤ n → Quiet (lengthCauses (4 * n))
+length-quiet n h = (rw (eq-eqb (4 * n % 4) 0 (mul-mod-right 4 n), le-ltb (4 * n) 8 (omega arith)), tt)
+
+header-quiet : (n : ℕ) → n ≤ knotsMax → Quiet (headerCauses (headerWord n editionNow))
+header-quiet n h =
+    let w : ℕ = headerWord n editionNow in
+    let count : knotCount w ≡ n = header-count n editionNow (omega arith) in (
+      ap not (both (eq-eqb (kind w) 0 (header-kind n editionNow (omega arith) (omega arith)))
+          (both (eq-eqb (edition w) editionNow (header-edition n editionNow (omega arith) (omega arith))) (eq-eqb (headerSpare w) 0 (header-spare n editionNow (omega arith) (omega arith))))),
+      (le-ltb knotsMax (knotCount w) (rw count h), tt),
+    )
+
+module _ (scans : List Scan) (st : Standing scans) where
+  open-length : length (openWords scans) < 2 ^ 30
+  open-length = omega (arith, knots-length none scans (chain scans st), st .count)
+
+  after-length : length (knotsWords scans ++ endWord (length (openWords scans)) ∷ []) ≡ length (openWords scans)
+  after-length = omega (arith, length-append (knotsWords scans) (endWord (length (openWords scans)) ∷ []))
+
+  count-back : knotCount (headerWord (length scans) editionNow) ≡ length scans
+  count-back = header-count (length scans) editionNow (omega (arith, st .count))
+
+  words-quiet : Quiet (wordsCauses (blockWords scans))
+  words-quiet =
+      let w : ℕ = headerWord (length scans) editionNow in
+      let ws : List ℕ = knotsWords scans ++ endWord (length (openWords scans)) ∷ [] in
+      quiet-both (headerCauses w) (knotsCauses (length ws) (knotCount w) none ws) (header-quiet (length scans) (st .count))
+      (subst₂ (λ b n. Quiet (knotsCauses b n none ws)) (sym after-length) (sym count-back) (knots-quiet (length (openWords scans)) open-length none scans (chain scans st)))
+
+  words-read : words (bytes (blockWords scans)) ≡ blockWords scans
+  words-read =
+      words-again (blockWords scans)
+      (omega (arith, st .count), below-both (2 ^ 32) (knotsWords scans) _ (knots-below none scans (chain scans st)) (omega (arith, open-length), tt))
+
+-- every block of scans that stand is accepted, and its list is those scans
+pub written-accepted : (scans : List Scan) → Standing scans → first (blockCauses (block scans)) ≡ none
+unfolding block blockCauses
+written-accepted scans st =
+    silent (blockCauses (block scans))
+    (quiet-both (lengthCauses (length (block scans))) (wordsCauses (words (block scans)))
+    (subst (λ n. Quiet (lengthCauses n)) (sym (length-bytes (blockWords scans))) (length-quiet (length (blockWords scans)) (omega (arith, after-length scans st))))
+    (subst (λ ws. Quiet (wordsCauses ws)) (sym (words-read scans st)) (words-quiet scans st)))
+
+pub written-list : (scans : List Scan) → Standing scans → listOf (block scans) ≡ scans
+unfolding block listOf
+written-list scans st =
+    let ws : List ℕ = endWord (length (openWords scans)) ∷ [] in
+    ap listOfWords (words-read scans st) ∙ ap (λ n. knotsFrom n (knotsWords scans ++ ws)) (count-back scans st) ∙ knots-back none scans ws (chain scans st)

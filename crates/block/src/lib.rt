@@ -1,0 +1,2 @@
+// Blocks: what they are, and that reading and writing undo each other. The reader and the writer stand above.
+pub const EDITION: u8 = 1;

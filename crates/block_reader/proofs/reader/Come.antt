@@ -1,0 +1,188 @@
+-- How far reading has come: between two knots, and between two coefficient words of one.
+use mathlib.Core.Bool.{true}
+use mathlib.Core.List.{List, _∷_, _++_, map, append-nil}
+use mathlib.Core.Option.{Option, none, some, Option·some-ne-none}
+use mathlib.Core.Path.{_≡_, refl, sym, _∙_, ap, ap₂}
+use Prim.Native.Nat.{ℕ, suc, _+_, _-_, _*_, _≤_, _<_}
+use native.Mathlib.Numerals.{add-one}
+use native.Mathlib.Omega.{arith}
+use lib.IntN.{ℤ}
+use lib.ListN.{length, take, drop, getD, set, length-set, length-drop}
+use lib.Seq.{take-suc, take-suc-set, getD-drop, drop-drop, append-snoc}
+use Rattle.rounding.specs.Limits.{knotsMax, gradeMax}
+use Rattle.knot.specs.Scan.{Scan, scanOf}
+use Rattle.knot.specs.RefusalTable.{first, sizeCauses}
+use Rattle.knot.specs.Machine.{Numbers, scan, Graded, knotIn, scansIn, neighbour}
+use Rattle.knot.specs.declared.held.Knot.{Knot}
+use Rattle.knot.specs.declared.following.Neighbour.{Neighbour}
+use Rattle.knot.proofs.Causes.{first-found, first-later}
+use Rattle.knot.proofs.Lists.{map-append-one, scans-stored, graded-stored}
+use Rattle.word.specs.Fields.{kind, position, grade, payload}
+use Rattle.block.specs.Reading.{knotCauses, coefficientCauses, knotsCauses, knotsFrom}
+use Rattle.block_reader.specs.Machine.{Reads}
+use Rattle.block_reader.specs.declared.reader.Contents.{Contents}
+use Rattle.block_reader.proofs.reader.Steps.{sizeOn, knot-passed, knot-listed, coefficient-right, coefficient-wrong, coefficient-there}
+
+-- the first fault of the knots, and their list
+abbrev pub fault : List ℕ → ℕ → Option ℕ
+fault ws count = first (knotsCauses (length ws - 1) count none (drop 1 ws))
+
+abbrev pub list : List ℕ → ℕ → List Scan
+list ws count = knotsFrom count (drop 1 ws)
+
+-- k knots are read, and word i is the next: what the definition gives of the whole is what it gives from here
+pub record Come (ws : List ℕ) (count : ℕ) (knots : List Knot) (last : Neighbour) (k i : ℕ) : Type 0 where
+  pub within : k ≤ count
+  pub place : i ≤ 9 * k + 1
+  pub room : length knots ≡ knotsMax
+  pub graded : (j : ℕ) → j < k → Graded (knotIn knots j)
+  pub lastGraded : last .there ≡ true → Graded (last .knot)
+  pub faults : fault ws count ≡ first (knotsCauses (length ws - 1) (count - k) (neighbour last) (drop i ws))
+  pub scans : list ws count ≡ scansIn k knots ++ knotsFrom (count - k) (drop i ws)
+
+-- and of the knot at word i, of grade m, j coefficient words
+pub record Coefficients (ws : List ℕ) (i m : ℕ) (c : List ℤ) (j : ℕ) : Type 0 where
+  pub within : j ≤ m + 1
+  pub room : length c ≡ gradeMax + 1
+  pub faults : first (coefficientCauses (m + 1) (drop (i + 1) ws)) ≡ first (coefficientCauses (m + 1 - j) (drop (i + 1 + j) ws))
+  pub values : take j c ≡ map payload (take j (drop (i + 1) ws))
+
+-- ---- the coefficient words
+
+module _ (ws : List ℕ) (i m : ℕ) where
+  pub none-yet : (c : List ℤ) → length c ≡ gradeMax + 1 → Coefficients ws i m c 0
+  none-yet c room =
+      let here : i + 1 ≡ i + 1 + 0 = omega arith in
+      let all : m + 1 ≡ m + 1 - 0 = omega arith in
+      record {
+        within = omega arith;
+        room = room;
+        faults = ap₂ (λ n a. first (coefficientCauses n (drop a ws))) all here;
+        values = refl;
+      }
+
+  -- one word more, of kind 2
+  module _ (c : List ℤ) (j : ℕ) (come : Coefficients ws i m c j) (h : j ≤ m) (e : kind (getD ws (i + 1 + j) 0) ≡ 2) where
+    more-faults : first (coefficientCauses (m + 1 - j) (drop (i + 1 + j) ws)) ≡ first (coefficientCauses (m + 1 - (j + 1)) (drop (i + 1 + (j + 1)) ws))
+    more-faults =
+        let some-left : m + 1 - j ≡ suc (m - j) = omega arith in
+        let less : m - j ≡ m + 1 - (j + 1) = omega arith in
+        let next : suc (i + 1 + j) ≡ i + 1 + (j + 1) = omega arith in
+        ap (λ n. first (coefficientCauses n (drop (i + 1 + j) ws))) some-left ∙ coefficient-right (m - j) ws (i + 1 + j) e ∙
+        ap₂ (λ n a. first (coefficientCauses n (drop a ws))) less next
+
+    more-values : j < length c → take (j + 1) (set c j (payload (getD ws (i + 1 + j) 0))) ≡ map payload (take (j + 1) (drop (i + 1) ws))
+    more-values b =
+        let w = getD ws (i + 1 + j) 0 in
+        let rest = drop (i + 1) ws in
+        let there : j < length rest = omega (arith, coefficient-there ws (i + 1 + j) e, length-drop (i + 1) ws) in
+        rw (add-one j, take-suc-set c j (payload w) b, take-suc rest j 0 there, getD-drop (i + 1) ws j 0, come .values)
+        (sym (map-append-one payload (take j rest) w))
+
+    pub one-more : m ≤ gradeMax → Coefficients ws i m (set c j (payload (getD ws (i + 1 + j) 0))) (j + 1)
+    one-more b = record {
+      within = omega arith;
+      room = length-set c j _ ∙ come .room;
+      faults = come .faults ∙ more-faults;
+      values = more-values (omega (arith, come .room));
+    }
+
+-- ---- the knot of the words from i on, all read: x and m are the fields of its word, c its coefficients
+
+abbrev pub next : ℕ → ℕ → List ℤ → Knot
+next x m c = record { position = x; grade = m; coefficients = c }
+
+-- what is left to find from its first coefficient word on: its coefficient words, its size, and the n knots after it
+abbrev ahead : ℕ → ℕ → Option Scan → ℕ → ℕ → List ℕ → Option ℕ
+ahead before n last x m rest = first (coefficientCauses (m + 1) rest ++ sizeOn before n last x m rest)
+
+module _ (ws : List ℕ) (count : ℕ) (knots : List Knot) (last : Neighbour) (k i : ℕ) (come : Come ws count knots last k i) (b : k < count)
+    (x m : ℕ) (c : List ℤ) (passed : first (knotCauses (neighbour last) (getD ws i 0)) ≡ none)
+    (x-is : x ≡ position (getD ws i 0)) (m-is : m ≡ grade (getD ws i 0)) where
+  one-left : count - k ≡ suc (count - (k + 1))
+  one-left = omega arith
+
+  from-word : fault ws count ≡ ahead (length ws - 1) (count - (k + 1)) (neighbour last) x m (drop (i + 1) ws)
+  from-word =
+      let to = ahead (length ws - 1) (count - (k + 1)) (neighbour last) in
+      come .faults ∙ ap (λ n. first (knotsCauses (length ws - 1) n (neighbour last) (drop i ws))) one-left ∙
+      knot-passed (neighbour last) (length ws - 1) (count - (k + 1)) ws i passed ∙
+      ap₂ (λ y n. to y n (drop (suc i) ws)) (sym x-is) (sym m-is) ∙ ap (λ a. to x m (drop a ws)) (sym (add-one i))
+
+  list-from-word : list ws count ≡ scansIn k knots ++ scanOf x (map payload (take (m + 1) (drop (i + 1) ws))) ∷ knotsFrom (count - (k + 1)) (drop (m + 1) (drop (i + 1) ws))
+  list-from-word =
+      let to : ℕ → ℕ → List ℕ → List Scan = λ y n rest. scansIn k knots ++ scanOf y (map payload (take (n + 1) rest)) ∷ knotsFrom (count - (k + 1)) (drop (n + 1) rest) in
+      come .scans ∙ ap (λ n. scansIn k knots ++ knotsFrom n (drop i ws)) one-left ∙
+      ap (λ l. scansIn k knots ++ l) (knot-listed (neighbour last) (count - (k + 1)) ws i passed) ∙
+      ap₂ (λ y n. to y n (drop (suc i) ws)) (sym x-is) (sym m-is) ∙ ap (λ a. to x m (drop a ws)) (sym (add-one i))
+
+  -- a word that is no coefficient word
+  pub from-wrong : (j : ℕ) → Coefficients ws i m c j → j ≤ m → (kind (getD ws (i + 1 + j) 0) ≡ 2 → ⊥) → fault ws count ≡ some 1
+  from-wrong j read h wrong =
+      let some-left : m + 1 - j ≡ suc (m - j) = omega arith in
+      from-word ∙
+      first-found (coefficientCauses (m + 1) (drop (i + 1) ws)) (sizeOn (length ws - 1) (count - (k + 1)) (neighbour last) x m (drop (i + 1) ws))
+      (read .faults ∙ ap (λ n. first (coefficientCauses n (drop (i + 1 + j) ws))) some-left ∙ coefficient-wrong (m - j) ws (i + 1 + j) wrong)
+
+  module _ (done : Coefficients ws i m c (m + 1)) where
+    scan-is : scan (next x m c) ≡ scanOf x (map payload (take (m + 1) (drop (i + 1) ws)))
+    scan-is = ap (scanOf x) (done .values)
+
+    quiet-words : first (coefficientCauses (m + 1) (drop (i + 1) ws)) ≡ none
+    quiet-words =
+        let all : m + 1 - (m + 1) ≡ 0 = omega arith in
+        done .faults ∙ ap (λ n. first (coefficientCauses n (drop (i + 1 + (m + 1)) ws))) all
+
+    after-it : drop (m + 1) (drop (i + 1) ws) ≡ drop (i + (m + 2)) ws
+    after-it = let there : i + 1 + (m + 1) ≡ i + (m + 2) = omega arith in drop-drop (m + 1) (i + 1) ws ∙ ap (λ a. drop a ws) there
+
+    from-size : fault ws count ≡
+        first (sizeCauses (neighbour last) (scan (next x m c)) ++ knotsCauses (length ws - 1) (count - (k + 1)) (some (scan (next x m c))) (drop (i + (m + 2)) ws))
+    from-size =
+        from-word ∙ first-later (coefficientCauses (m + 1) (drop (i + 1) ws)) (sizeOn (length ws - 1) (count - (k + 1)) (neighbour last) x m (drop (i + 1) ws)) quiet-words ∙
+        ap₂ (λ s l. first (sizeCauses (neighbour last) s ++ knotsCauses (length ws - 1) (count - (k + 1)) (some s) l)) (sym scan-is) after-it
+
+    -- the size refuses
+    pub from-size-found : {n : ℕ} → first (sizeCauses (neighbour last) (scan (next x m c))) ≡ some n → fault ws count ≡ some n
+    from-size-found e =
+        from-size ∙
+        first-found (sizeCauses (neighbour last) (scan (next x m c))) (knotsCauses (length ws - 1) (count - (k + 1)) (some (scan (next x m c))) (drop (i + (m + 2)) ws)) e
+
+    -- the list so far, and the new scan
+    scans-then : count ≤ knotsMax → list ws count ≡ scansIn (k + 1) (set knots k (next x m c)) ++ knotsFrom (count - (k + 1)) (drop (i + (m + 2)) ws)
+    scans-then n =
+        list-from-word ∙ ap₂ (λ s l. scansIn k knots ++ s ∷ knotsFrom (count - (k + 1)) l) (sym scan-is) after-it ∙
+        sym (append-snoc (scansIn k knots) (scan (next x m c)) (knotsFrom (count - (k + 1)) (drop (i + (m + 2)) ws))) ∙
+        ap (λ l. l ++ knotsFrom (count - (k + 1)) (drop (i + (m + 2)) ws)) (sym (scans-stored knots k (next x m c) (omega (arith, come .room))))
+
+    pub taken : count ≤ knotsMax → m ≤ gradeMax → first (sizeCauses (neighbour last) (scan (next x m c))) ≡ none →
+        Come ws count (set knots k (next x m c)) (record { there = true; knot = next x m c }) (k + 1) (i + (m + 2))
+    taken n g sized = record {
+      within = omega arith;
+      place = omega (arith, come .place);
+      room = length-set knots k _ ∙ come .room;
+      graded = graded-stored knots k (k + 1) (next x m c) (omega (arith, come .room)) (record { room = done .room; grade = g }) (λ j h e. come .graded j (omega arith));
+      lastGraded = λ e. record { room = done .room; grade = g };
+      faults = from-size ∙ first-later (sizeCauses (neighbour last) (scan (next x m c))) (knotsCauses (length ws - 1) (count - (k + 1)) (some (scan (next x m c))) (drop (i + (m + 2)) ws)) sized;
+      scans = scans-then n;
+    }
+
+-- ---- all knots are read
+
+pub ended : (ws : List ℕ) (count : ℕ) (knots : List Knot) (last : Neighbour) (k i : ℕ) → Come ws count knots last k i → k ≡ count → scansIn count knots ≡ list ws count
+ended ws count knots last k i come e =
+    let rest : count - k ≡ 0 = omega arith in
+    sym
+    (come .scans ∙ ap (λ n. scansIn k knots ++ knotsFrom n (drop i ws)) rest ∙ append-nil (scansIn k knots) ∙ ap (λ n. scansIn n knots) e)
+
+-- ---- a fault
+
+pub refuses : (r : Contents) (found here : Option ℕ) (scans : List Scan) → Numbers (r .refusal) here → here ≡ some (r .refusal) → found ≡ some (r .refusal) →
+    length (r .knots) ≡ knotsMax → r .count ≤ knotsMax → Reads r found scans
+refuses r found here scans numbered e f room count = record {
+  number = record { known = numbered .known; is = numbered .is ∙ e ∙ sym f };
+  room = room;
+  count = count;
+  graded = λ q. absurd (Option·some-ne-none _ (sym f ∙ q));
+  scans = λ q. absurd (Option·some-ne-none _ (sym f ∙ q));
+}

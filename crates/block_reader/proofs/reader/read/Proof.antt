@@ -1,0 +1,148 @@
+-- `block_reader::reader::read` meets its contract.
+use borrow.Author.Needs.{needs}
+use borrow.Author.Tests.{ltb-false}
+use mathlib.Core.List.{List, [], _∷_}
+use mathlib.Core.Option.{Option, none, some, Option·some-ne-none}
+use mathlib.Core.Path.{_≡_, refl, sym, _∙_, ap}
+use Prim.Native.Nat.{ℕ, _-_, _≤_}
+use native.Mathlib.Omega.{arith}
+use lib.ListN.{length, getD}
+use Rattle.rounding.specs.Limits.{knotsMax}
+use Rattle.knot.specs.Scan.{Scan}
+use Rattle.knot.specs.RefusalTable.{first}
+use Rattle.knot.specs.Machine.{refusal, Numbers}
+use Rattle.knot.proofs.Causes.{first-found, first-later, quiet}
+use Rattle.knot.proofs.Numbers.{passed, failed}
+use Rattle.word.specs.Fields.{knotCount}
+use Rattle.word.specs.Bytes.{words}
+use Rattle.block.specs.Reading.{lengthCauses, headerCauses, knotsCauses, wordsCauses, blockCauses, listOfWords, listOf}
+use Rattle.block_reader.specs.Machine.{Reads}
+use Rattle.block_reader.specs.declared.reader.Contents.{Contents}
+use Rattle.block_reader.proofs.reader.Come.{fault, list, refuses}
+use Rattle.block_reader.proofs.reader.read.Statement.{statement}
+use Rattle.block_reader.proofs.reader.read.Tie as tie
+
+-- ---- the header is due
+
+header-found : {n : ℕ} (ws : List ℕ) → first (headerCauses (getD ws 0 0)) ≡ some n → first (wordsCauses ws) ≡ some n
+header-found [] e = e
+header-found (w ∷ ws) e = first-found (headerCauses w) (knotsCauses (length ws) (knotCount w) none ws) e
+
+header-passed : (ws : List ℕ) → first (headerCauses (getD ws 0 0)) ≡ none → first (wordsCauses ws) ≡ fault ws (knotCount (getD ws 0 0))
+header-passed [] e = absurd (Option·some-ne-none _ e)
+header-passed (w ∷ ws) e =
+    let rest : length ws ≡ length (w ∷ ws) - 1 = omega arith in
+    first-later (headerCauses w) (knotsCauses (length ws) (knotCount w) none ws) e ∙ ap (λ n. first (knotsCauses n (knotCount w) none ws)) rest
+
+header-listed : (ws : List ℕ) → first (headerCauses (getD ws 0 0)) ≡ none → listOfWords ws ≡ list ws (knotCount (getD ws 0 0))
+header-listed [] e = refl
+header-listed (w ∷ ws) e = refl
+
+length-test-requires : tie.Need-length-test-requires
+length-test-requires c κs = search needs
+
+number-requires : tie.Need-number-requires
+number-requires c κs = search needs
+
+stopped-requires : tie.Need-stopped-requires
+stopped-requires c κs = search needs
+
+-- a fault before the first knot
+stops : {r : Contents} {n : ℕ} (bs : List ℕ) (here : Option ℕ) → Numbers n here → (n ≡ 0 → ⊥) → ((k : ℕ) → here ≡ some k → first (blockCauses bs) ≡ some k) →
+    (r .refusal ≡ n) × (length (r .knots) ≡ knotsMax) × (r .count ≡ 0) → Reads r (first (blockCauses bs)) (listOf bs)
+stops {r} {n} bs here numbered d whole s =
+    let e : here ≡ some n = failed n numbered d in
+    refuses r (first (blockCauses bs)) here (listOf bs) (rw (s .0) numbered) (rw (s .0) e) (rw (s .0) (whole n e)) (s .1) (omega (arith, s .2))
+
+returns : tie.Need-returns
+unfolding blockCauses
+returns c =
+    let n = c .before .before in
+    let bs = n .before .before .before .args .block .now in
+    let here = n .before .length-test in
+    stops bs (refusal (here .result)) (n .number .ensures) (c .before .if1 .taken)
+    (λ k e. first-found (lengthCauses (length bs)) (wordsCauses (words bs)) (sym (here .ensures) ∙ e)) (c .stopped .ensures)
+
+load-requires : tie.Need-load-requires
+load-requires c κs = search needs
+
+header-test-requires : tie.Need-header-test-requires
+header-test-requires c κs = search needs
+
+number-requires-2 : tie.Need-number-requires-2
+number-requires-2 c κs = search needs
+
+stopped-requires-2 : tie.Need-stopped-requires-2
+stopped-requires-2 c κs = search needs
+
+-- the length is accepted
+length-passed : (c : tie.Else1) → let bs = c .before .before .before .before .args .block .now in first (blockCauses bs) ≡ first (wordsCauses (words bs))
+unfolding blockCauses
+length-passed c =
+    let n = c .before in
+    let bs = n .before .before .before .args .block .now in
+    first-later (lengthCauses (length bs)) (wordsCauses (words bs)) (sym (n .before .length-test .ensures) ∙ passed (n .number .ensures) (c .if1 .left))
+
+header-is : (c : tie.After-header-test) → let bs = c .before .before .before .before .before .before .args .block .now in
+    first (headerCauses (getD (words bs) 0 0)) ≡ refusal (c .header-test .result)
+header-is c = sym (c .header-test .ensures ∙ ap (λ w. first (headerCauses w)) (c .before .load .ensures))
+
+returns-2 : tie.Need-returns-2
+returns-2 c =
+    let n = c .before .before in
+    let h = n .before in
+    let e = h .before .before in
+    let bs = e .before .before .before .before .args .block .now in
+    stops bs (refusal (h .header-test .result)) (n .number2 .ensures) (c .before .if2 .taken)
+    (λ k q. length-passed e ∙ header-found (words bs) (header-is h ∙ q)) (c .stopped2 .ensures)
+
+header-quiet : (c : tie.Else2) → let bs = c .before .before .before .before .before .before .before .before .args .block .now in first (headerCauses (getD (words bs) 0 0)) ≡ none
+header-quiet c = header-is (c .before .before) ∙ passed (c .before .number2 .ensures) (c .if2 .left)
+
+count-is : (c : tie.After-knot-count) → let bs = c .before .before .before .before .before .before .before .before .before .args .block .now in c .knot-count .result ≡ knotCount (getD (words bs) 0 0)
+count-is c = c .knot-count .ensures ∙ ap knotCount (c .before .before .before .before .load .ensures)
+
+-- at most 129 knots
+counted : (c : tie.After-knot-count) → let bs = c .before .before .before .before .before .before .before .before .before .args .block .now in knotCount (getD (words bs) 0 0) ≤ knotsMax
+counted c =
+    let w = getD (words (c .before .before .before .before .before .before .before .before .before .args .block .now)) 0 0 in
+    ltb-false knotsMax (knotCount w) (quiet (headerCauses w) (header-quiet (c .before)) .1 .0)
+
+knot-count-requires : tie.Need-knot-count-requires
+knot-count-requires c κs = search needs
+
+cast-read-knots : tie.Need-cast-read-knots
+cast-read-knots c = search needs
+
+read-knots-requires : tie.Need-read-knots-requires
+read-knots-requires c κs = omega (arith, counted c, count-is c)
+
+returns-3 : tie.Need-returns-3
+unfolding listOf
+returns-3 c =
+    let k = c .before in
+    let e = k .before .before .before .before .before in
+    let ws = words (e .before .before .before .before .args .block .now) in
+    read-as (length-passed e ∙ header-passed ws (header-quiet (k .before)) ∙ ap (fault ws) (sym (count-is k)))
+    (header-listed ws (header-quiet (k .before)) ∙ ap (list ws) (sym (count-is k))) (c .read-knots .ensures)
+  where
+    read-as : {r : Contents} {f g : Option ℕ} {l m : List Scan} → g ≡ f → m ≡ l → Reads r f l → Reads r g m
+    read-as p q reads = rw (p, q) reads
+
+pub read-spec : {M : Type 1} → statement M
+read-spec =
+    tie.close
+    (tie.spec
+    length-test-requires
+    number-requires
+    stopped-requires
+    returns
+    load-requires
+    header-test-requires
+    number-requires-2
+    stopped-requires-2
+    returns-2
+    knot-count-requires
+    cast-read-knots
+    read-knots-requires
+    returns-3)

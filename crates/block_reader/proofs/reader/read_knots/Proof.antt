@@ -1,0 +1,349 @@
+-- `block_reader::reader::read_knots` meets its contract.
+use borrow.Author.Needs.{needs}
+use mathlib.Core.Bool.{true, false, true≢false}
+use mathlib.Core.List.{List}
+use mathlib.Core.Option.{none, some}
+use mathlib.Core.Path.{_≡_, refl, sym, _∙_, ap}
+use mir.Facts.{toZ-ofZ}
+use mir.Val.{SFits, toZ, ofZ}
+use mir.Syntax.{w32}
+use Prim.Native.Nat.{ℕ, suc, _+_, _-_, _≤_, _<_}
+use native.Mathlib.Omega.{arith}
+use lib.IntN.{ℤ}
+use lib.ListN.{length, getD, drop, set}
+use Rattle.rounding.specs.Limits.{knotsMax, gradeMax, gapMax}
+use Rattle.knot.specs.Scan.{gap, Scan}
+use Rattle.knot.specs.RefusalTable.{first}
+use Rattle.knot.specs.Machine.{scan, neighbour, refusal, Numbers}
+use Rattle.knot.specs.declared.held.Knot.{Knot}
+use Rattle.knot.specs.declared.table.Refusal.the-variants as Refusals
+use Rattle.knot.proofs.Causes.{quiet, placed}
+use Rattle.knot.proofs.Numbers.{numbers, passed, failed}
+use Rattle.word.specs.Fields.{kind, position, grade, payload}
+use Rattle.word.specs.Bytes.{words}
+use Rattle.block.specs.Reading.{knotCauses, knotsCauses, knotsFrom}
+use Rattle.block_reader.proofs.reader.Steps.{knot-found}
+use Rattle.block_reader.proofs.reader.Come.{fault, Come, Coefficients, refuses, none-yet, one-more, from-wrong, from-size-found, taken, ended}
+use Rattle.block_reader.proofs.reader.read_knots.Statement.{statement}
+use Rattle.block_reader.proofs.reader.read_knots.Tie as tie
+
+abbrev Inv-loop : tie.InvT-loop
+Inv-loop block count knots last k i word fault m coefficients₀ j₀ coefficients j = Coefficients (words block) i m coefficients j
+
+abbrev μ-loop : tie.MeasureT-loop
+μ-loop block count knots last k i word fault m coefficients₀ j₀ coefficients j = m + 1 - j
+
+abbrev Inv-words : tie.InvT-words
+Inv-words block count knots₀ last₀ k₀ i₀ knots last k i = Come (words block) count knots last k i
+
+abbrev μ-words : tie.MeasureT-words
+μ-words block count knots₀ last₀ k₀ i₀ knots last k i = count - k
+
+free-requires : tie.Need-free-requires Inv-loop μ-loop Inv-words μ-words
+free-requires c κs = search needs
+
+-- ---- nothing read yet
+
+nothing-yet : (ws : List ℕ) (count : ℕ) (knots : List Knot) (free : Knot) → length knots ≡ knotsMax → Come ws count knots (record { there = false; knot = free }) 0 1
+nothing-yet ws count knots free room =
+    let all : count ≡ count - 0 = omega arith in
+    record {
+      within = omega arith;
+      place = omega arith;
+      room = room;
+      graded = λ j h. absurd (omega arith);
+      lastGraded = λ e. absurd (true≢false (sym e));
+      faults = ap (λ n. first (knotsCauses (length ws - 1) n none (drop 1 ws))) all;
+      scans = ap (λ n. knotsFrom n (drop 1 ws)) all;
+    }
+
+words-holds : tie.Need-words-holds Inv-loop μ-loop Inv-words μ-words
+words-holds c = nothing-yet (words (c .before .before .args .block .now)) (c .before .before .args .count) _ (c .free .result) refl
+
+-- ---- a knot word is read
+
+abbrev At-words : Type 0
+At-words = tie.At-words Inv-loop μ-loop Inv-words μ-words
+
+abbrev After-grade : Type 0
+After-grade = tie.After-grade Inv-loop μ-loop Inv-words μ-words
+
+-- the place between two knots, and the words of the block
+abbrev between : After-grade → At-words
+between g = g .before .before .before .before .before .before
+
+abbrev the-words : At-words → List ℕ
+the-words w = words (w .before .before .before .args .block .now)
+
+abbrev the-count : At-words → ℕ
+the-count w = w .before .before .before .args .count
+
+module _ (g : After-grade) where
+  -- the knot word is accepted
+  word-passed : first (knotCauses (neighbour (between g .words .last)) (getD (the-words (between g)) (between g .words .i) 0)) ≡ none
+  word-passed =
+      let n = g .before .before in
+      let l = n .before .before in
+      sym (ap (λ u. first (knotCauses (neighbour (between g .words .last)) u)) (l .load .ensures)) ∙ sym (n .before .knot-test .ensures) ∙ passed (n .number2 .ensures) (g .before .if2 .left)
+
+  grade-is : g .grade .result ≡ grade (getD (the-words (between g)) (between g .words .i) 0)
+  grade-is = g .grade .ensures ∙ ap grade (g .before .before .before .before .load .ensures)
+
+  grade-most : g .grade .result ≤ gradeMax
+  grade-most = omega (arith, g .grade .ensures)
+
+  count-most : the-count (between g) ≤ knotsMax
+  count-most = between g .before .before .before .pre
+
+  one-more-knot : between g .words .k < the-count (between g)
+  one-more-knot = g .before .before .before .before .before .if1 .left
+
+end-test-requires : tie.Need-end-test-requires Inv-loop μ-loop Inv-words μ-words
+end-test-requires c κs = search needs
+
+number-requires : tie.Need-number-requires Inv-loop μ-loop Inv-words μ-words
+number-requires c κs = search needs
+
+load-requires : tie.Need-load-requires Inv-loop μ-loop Inv-words μ-words
+load-requires c κs = search needs
+
+knot-test-requires : tie.Need-knot-test-requires Inv-loop μ-loop Inv-words μ-words
+knot-test-requires c κs = search needs
+
+number-requires-2 : tie.Need-number-requires-2 Inv-loop μ-loop Inv-words μ-words
+number-requires-2 c κs = search needs
+
+grade-requires : tie.Need-grade-requires Inv-loop μ-loop Inv-words μ-words
+grade-requires c κs = search needs
+
+cast-m : tie.Need-cast-m Inv-loop μ-loop Inv-words μ-words
+cast-m c = search needs
+
+loop-holds : tie.Need-loop-holds Inv-loop μ-loop Inv-words μ-words
+loop-holds c = none-yet (words (c .before .before .before .before .before .before .before .before .before .args .block .now)) _ _ _ refl
+
+add-load : tie.Need-add-load Inv-loop μ-loop Inv-words μ-words
+add-load c = record { fits = omega (arith, between (c .before .before) .words .inv .place, one-more-knot (c .before .before), count-most (c .before .before)) }
+
+add-load-2 : tie.Need-add-load-2 Inv-loop μ-loop Inv-words μ-words
+add-load-2 c = record { fits = omega (arith, between (c .before .before) .words .inv .place, one-more-knot (c .before .before), count-most (c .before .before), c .loop-test .taken, grade-most (c .before .before)) }
+
+load-requires-2 : tie.Need-load-requires-2 Inv-loop μ-loop Inv-words μ-words
+load-requires-2 c κs = search needs
+
+kind-requires : tie.Need-kind-requires Inv-loop μ-loop Inv-words μ-words
+kind-requires c κs = search needs
+
+payload-requires : tie.Need-payload-requires Inv-loop μ-loop Inv-words μ-words
+payload-requires c κs = search needs
+
+mul-coefficients : tie.Need-mul-coefficients Inv-loop μ-loop Inv-words μ-words
+mul-coefficients c = let l = c .before .before .before .before in record { fits = omega (arith, l .loop-test .taken, grade-most (l .before .before)) }
+
+array-set-from-coefficients : tie.Need-array-set-from-coefficients Inv-loop μ-loop Inv-words μ-words
+array-set-from-coefficients c = let l = c .before .before .before .before in omega (arith, l .loop-test .taken, grade-most (l .before .before))
+
+number-requires-3 : tie.Need-number-requires-3 Inv-loop μ-loop Inv-words μ-words
+number-requires-3 c κs = search needs
+
+add-j : tie.Need-add-j Inv-loop μ-loop Inv-words μ-words
+add-j c = let l = c .before .before .before .before in record { fits = omega (arith, l .loop-test .taken, grade-most (l .before .before)) }
+
+loop-less : tie.Need-loop-less Inv-loop μ-loop Inv-words μ-words
+loop-less c = let l = c .before .before .before .before in omega (arith, l .loop-test .taken)
+
+loop-again : tie.Need-loop-again Inv-loop μ-loop Inv-words μ-words
+loop-again c =
+    let l = c .before .before .before .before in
+    let g = l .before .before in
+    let at = the-words (between g) in
+    let i = between g .words .i in
+    let j = l .before .loop .j in
+    stored at i (g .grade .result) j (l .before .loop .coefficients) (record { sfits = c .payload .ok }) (c .payload .ensures ∙ ap payload (c .before .before .before .load2 .ensures))
+    (one-more at i (g .grade .result) (l .before .loop .coefficients) j (l .before .loop .inv) (l .loop-test .taken)
+    (sym (ap kind (c .before .before .before .load2 .ensures)) ∙ sym (c .before .before .kind .ensures) ∙ c .before .match .keys1) (grade-most g))
+  where
+    stored : (ws : List ℕ) (i m j : ℕ) (l : List ℤ) {z y : ℤ} → SFits w32 z → z ≡ y → Coefficients ws i m (set l j y) (j + 1) → Coefficients ws i m (set l j (toZ w32 (ofZ w32 z))) (j + 1)
+    stored ws i m j l fits e come = rw (toZ-ofZ fits, e) come
+
+position-requires : tie.Need-position-requires Inv-loop μ-loop Inv-words μ-words
+position-requires c κs = search needs
+
+-- ---- its coefficient words are read too
+
+abbrev After-position : Type 0
+After-position = tie.After-position Inv-loop μ-loop Inv-words μ-words
+
+abbrev word-read : After-position → After-grade
+word-read c = c .before .before .before
+
+module _ (c : After-position) where
+  position-is : c .position .result ≡ position (getD (the-words (between (word-read c))) (between (word-read c) .words .i) 0)
+  position-is = c .position .ensures ∙ ap position (word-read c .before .before .before .before .load .ensures)
+
+  all-read : Coefficients (the-words (between (word-read c))) (between (word-read c) .words .i) (word-read c .grade .result) (c .before .before .loop .coefficients) (word-read c .grade .result + 1)
+  all-read =
+      let l = c .before .before .loop in
+      let g = word-read c in
+      let e : l .j ≡ g .grade .result + 1 = omega (arith, c .before .loop-test .left, l .inv .within) in
+      rw e at (l .inv)
+
+  -- the last knot, if there is one, lies at most 16 steps before it
+  close : between (word-read c) .words .last .there ≡ true → gap (scan (between (word-read c) .words .last .knot)) (c .position .result) ≤ gapMax
+  close there =
+      let g = word-read c in
+      let last = between g .words .last in
+      let x = position (getD (the-words (between g)) (between g .words .i) 0) in
+      let q = quiet (knotCauses (neighbour last) (getD (the-words (between g)) (between g .words .i) 0)) (word-passed g) in
+      moved (scan (last .knot)) position-is (placed (neighbour last) x (q .1 .0) (q .1 .1 .0) .near (scan (last .knot)) (ap (λ b. neighbour (record { there = b; knot = last .knot })) there))
+    where
+      moved : {x y : ℕ} (held : Scan) → x ≡ y → gap held y ≤ gapMax → gap held x ≤ gapMax
+      moved held e h = rw e h
+
+cast-t31 : tie.Need-cast-t31 Inv-loop μ-loop Inv-words μ-words
+cast-t31 c = record { fits = omega (arith, c .position .ensures) }
+
+cast-t32 : tie.Need-cast-t32 Inv-loop μ-loop Inv-words μ-words
+cast-t32 c = record { fits = omega (arith, grade-most (c .before .before .before)) }
+
+size-test-requires : tie.Need-size-test-requires Inv-loop μ-loop Inv-words μ-words
+size-test-requires c κs = (record { room = c .before .before .loop .inv .room; grade = grade-most (word-read c) }, between (word-read c) .words .inv .lastGraded, close c)
+
+number-requires-4 : tie.Need-number-requires-4 Inv-loop μ-loop Inv-words μ-words
+number-requires-4 c κs = search needs
+
+mul-knots : tie.Need-mul-knots Inv-loop μ-loop Inv-words μ-words
+mul-knots c = let g = c .before .before .before .before .before .before in record { fits = omega (arith, one-more-knot g, count-most g) }
+
+array-set-from-knots : tie.Need-array-set-from-knots Inv-loop μ-loop Inv-words μ-words
+array-set-from-knots c = let g = c .before .before .before .before .before .before in omega (arith, one-more-knot g, count-most g)
+
+add-k : tie.Need-add-k Inv-loop μ-loop Inv-words μ-words
+add-k c = let g = c .before .before .before .before .before .before in record { fits = omega (arith, one-more-knot g, count-most g) }
+
+add-i : tie.Need-add-i Inv-loop μ-loop Inv-words μ-words
+add-i c = let g = c .before .before .before .before .before .before in record { fits = omega (arith, grade-most g) }
+
+add-i-2 : tie.Need-add-i-2 Inv-loop μ-loop Inv-words μ-words
+add-i-2 c = let g = c .before .before .before .before .before .before in record { fits = omega (arith, grade-most g, between g .words .inv .place, one-more-knot g, count-most g) }
+
+words-less : tie.Need-words-less Inv-loop μ-loop Inv-words μ-words
+words-less c = let g = c .before .before .before .before .before .before in omega (arith, one-more-knot g)
+
+words-again : tie.Need-words-again Inv-loop μ-loop Inv-words μ-words
+words-again c =
+    let p = c .before .before .before in
+    let g = word-read p in
+    let w = between g in
+    taken (the-words w) (the-count w) (w .words .knots) (w .words .last) (w .words .k) (w .words .i) (w .words .inv) (one-more-knot g)
+    (p .position .result) (g .grade .result) (p .before .before .loop .coefficients) (word-passed g) (position-is p) (grade-is g) (all-read p) (count-most g) (grade-most g)
+    (sym (c .before .before .size-test .ensures) ∙ passed (c .before .number4 .ensures) (c .if3 .left))
+
+-- ---- the first fault, or the end
+
+returns : tie.Need-returns Inv-loop μ-loop Inv-words μ-words
+returns c =
+    let t = c .before .before in
+    let w = t .before in
+    let come = w .words .inv in
+    let all : w .words .k ≡ the-count w = omega (arith, t .if1 .taken, come .within) in
+    let rest : the-count w - w .words .k ≡ 0 = omega (arith, all) in
+    let ends : fault (the-words w) (the-count w) ≡ refusal (c .before .end-test .result) =
+    come .faults ∙ ap (λ n. first (knotsCauses (length (the-words w) - 1) n (neighbour (w .words .last)) (drop (w .words .i) (the-words w)))) rest ∙ sym (c .before .end-test .ensures) in
+    record {
+      number = rw ends (c .number .ensures);
+      room = come .room;
+      count = w .before .before .before .pre;
+      graded = λ q k h. come .graded k (omega (arith, all));
+      scans = λ q. ended (the-words w) (the-count w) (w .words .knots) (w .words .last) (w .words .k) (w .words .i) come all;
+    }
+
+returns-2 : tie.Need-returns-2 Inv-loop μ-loop Inv-words μ-words
+returns-2 c =
+    let n = c .before in
+    let l = n .before .before in
+    let w = l .before .before in
+    let come = w .words .inv in
+    let e = failed (n .number2 .result) (n .number2 .ensures) (c .if2 .taken) in
+    let one : the-count w - w .words .k ≡ suc (the-count w - (w .words .k + 1)) = omega (arith, l .before .if1 .left) in
+    refuses _ (fault (the-words w) (the-count w)) (refusal (n .before .knot-test .result)) _ (n .number2 .ensures) e
+    (come .faults ∙ ap (λ m. first (knotsCauses (length (the-words w) - 1) m (neighbour (w .words .last)) (drop (w .words .i) (the-words w)))) one ∙
+    knot-found (neighbour (w .words .last)) (length (the-words w) - 1) (the-count w - (w .words .k + 1)) (the-words w) (w .words .i)
+    (sym (ap (λ u. first (knotCauses (neighbour (w .words .last)) u)) (l .load .ensures)) ∙ sym (n .before .knot-test .ensures) ∙ e))
+    (come .room) (w .before .before .before .pre)
+
+returns-3 : tie.Need-returns-3 Inv-loop μ-loop Inv-words μ-words
+returns-3 c =
+    let l = c .before .before .before .before in
+    let g = l .before .before in
+    let w = between g in
+    let one = ap some (sym (c .number3 .ensures)) in
+    refuses _ (fault (the-words w) (the-count w)) (some 1) _ (numbered-form (c .number3 .ensures)) one
+    (from-wrong (the-words w) (the-count w) (w .words .knots) (w .words .last) (w .words .k) (w .words .i) (w .words .inv) (one-more-knot g)
+    (position (getD (the-words w) (w .words .i) 0)) (g .grade .result) (l .before .loop .coefficients) (word-passed g) refl (grade-is g)
+    (l .before .loop .j) (l .before .loop .inv) (l .loop-test .taken)
+    (λ e. c .before .match .rest .1 (c .before .before .kind .ensures ∙ ap kind (c .before .before .before .load2 .ensures) ∙ e)) ∙
+    one)
+    (w .words .inv .room) (count-most g)
+  where
+    numbered-form : {n : ℕ} → n ≡ 1 → Numbers n (some 1)
+    numbered-form e = rw e (numbers Refusals.Form)
+
+returns-4 : tie.Need-returns-4 Inv-loop μ-loop Inv-words μ-words
+returns-4 c =
+    let n = c .before in
+    let p = n .before .before in
+    let g = word-read p in
+    let w = between g in
+    let e = failed (n .number4 .result) (n .number4 .ensures) (c .if3 .taken) in
+    refuses _ (fault (the-words w) (the-count w)) (refusal (n .before .size-test .result)) _ (n .number4 .ensures) e
+    (from-size-found (the-words w) (the-count w) (w .words .knots) (w .words .last) (w .words .k) (w .words .i) (w .words .inv) (one-more-knot g)
+    (p .position .result) (g .grade .result) (p .before .before .loop .coefficients) (word-passed g) (position-is p) (grade-is g) (all-read p)
+    (sym (n .before .size-test .ensures) ∙ e))
+    (w .words .inv .room) (count-most g)
+
+pub read-knots-spec : {M : Type 1} → statement M
+read-knots-spec =
+    tie.close
+    (tie.spec
+    Inv-loop
+    μ-loop
+    Inv-words
+    μ-words
+    free-requires
+    words-holds
+    end-test-requires
+    number-requires
+    load-requires
+    knot-test-requires
+    number-requires-2
+    grade-requires
+    cast-m
+    loop-holds
+    add-load
+    add-load-2
+    load-requires-2
+    kind-requires
+    payload-requires
+    mul-coefficients
+    array-set-from-coefficients
+    number-requires-3
+    add-j
+    loop-less
+    loop-again
+    position-requires
+    cast-t31
+    cast-t32
+    size-test-requires
+    number-requires-4
+    mul-knots
+    array-set-from-knots
+    add-k
+    add-i
+    add-i-2
+    words-less
+    words-again
+    returns
+    returns-2
+    returns-3
+    returns-4)

@@ -1,0 +1,128 @@
+// Reading a block: a knot word, its coefficient words, the next knot; and the first fault ends it.
+ghost use mathlib.Core.Option.{none};
+ghost use mathlib.Core.Path.{_≡_};
+ghost use Prim.Native.Nat.{_-_, _≤_};
+ghost use lib.ListN.{drop, length};
+ghost use Rattle.rounding.specs.Limits.{knotsMax};
+ghost use Rattle.knot.specs.RefusalTable.{first};
+ghost use Rattle.word.specs.Bytes.{words};
+ghost use Rattle.block.specs.Reading.{blockCauses, knotsCauses, knotsFrom, listOf};
+ghost use Rattle.block_reader.specs.Machine.{Reads};
+use crate::tests::end_test;
+use crate::tests::header_test;
+use crate::tests::knot_test;
+use crate::tests::length_test;
+use knot::COEFFICIENTS_MAX;
+use knot::KNOTS_MAX;
+use knot::Knot;
+use knot::Neighbour;
+use knot::Refusal;
+use knot::size_test;
+use word::grade;
+use word::kind;
+use word::knot_count;
+use word::load;
+use word::payload;
+use word::position;
+
+// The number of the first fault, 0 where there is none; then the first `count` knots are the list.
+pub struct Contents {
+    pub knots: [Knot; KNOTS_MAX],
+    pub count: usize,
+    pub refusal: u32,
+}
+
+// A knot for the free places.
+fn free() -> Knot {
+    let coefficients = [0i32; COEFFICIENTS_MAX];
+    Knot {
+        position: 0,
+        grade: 0,
+        coefficients,
+    }
+}
+
+// No list: a fault before the first knot.
+fn stopped(refusal: u32) -> Contents
+    ensures { λ r. ⌜ (r .refusal ≡ refusal) × (length (r .knots) ≡ knotsMax) × (r .count ≡ 0) ⌝ }
+{
+    let none = free();
+    Contents {
+        knots: [none; KNOTS_MAX],
+        count: 0,
+        refusal,
+    }
+}
+
+// The knots of a block, from its second word on.
+fn read_knots(block: &[u8], count: usize) -> Contents
+    requires { ⌜ count ≤ knotsMax ⌝ }
+    ensures { λ r. ⌜ Reads r (first (knotsCauses (length (words (now (block .entry))) - 1) count none (drop 1 (words (now (block .entry)))))) (knotsFrom count (drop 1 (words (now (block .entry))))) ⌝ }
+{
+    let none = free();
+    let mut knots = [none; KNOTS_MAX];
+    let mut last = Neighbour {
+        there: false,
+        knot: none,
+    };
+    let mut k = 0;
+    let mut i = 1;
+    let refusal: u32 = 'words: loop {
+        if count <= k {
+            break 'words end_test(block, i).number();
+        }
+        let word = load(block, i);
+        let fault = knot_test(last, word).number();
+        if fault != 0 {
+            break 'words fault;
+        }
+        let m = grade(word) as usize;
+        let mut coefficients = [0i32; COEFFICIENTS_MAX];
+        let mut j = 0;
+        while j <= m {
+            let word = load(block, i + 1 + j);
+            match kind(word) {
+                2 => coefficients[j] = payload(word),
+                _ => break 'words Refusal::Form.number(),
+            }
+            j += 1;
+        }
+        let next = Knot {
+            position: position(word) as u16,
+            grade: m as u8,
+            coefficients,
+        };
+        let fault = size_test(last, next).number();
+        if fault != 0 {
+            break 'words fault;
+        }
+        knots[k] = next;
+        last = Neighbour {
+            there: true,
+            knot: next,
+        };
+        k += 1;
+        i += m + 2;
+    };
+    Contents {
+        knots,
+        count,
+        refusal,
+    }
+}
+
+// Every list of bytes: the number of its first fault in word order, or its list.
+pub fn read(block: &[u8]) -> Contents
+    ensures { λ r. ⌜ Reads r (first (blockCauses (now (block .entry)))) (listOf (now (block .entry))) ⌝ }
+{
+    let length = length_test(block.len()).number();
+    if length != 0 {
+        return stopped(length);
+    }
+    let word = load(block, 0);
+    let header = header_test(word).number();
+    if header != 0 {
+        return stopped(header);
+    }
+    read_knots(block, knot_count(word) as usize)
+}

@@ -1,0 +1,5 @@
+// Writing blocks.
+mod writer;
+
+pub use writer::length;
+pub use writer::write;

@@ -1,0 +1,73 @@
+-- `reel::calls::Reel::write` meets its contract: 10 with the output as it was, or the block in front of it and its length.
+use borrow.Author.Needs.{needs}
+use borrow.Author.Tests.{lt-ltb, le-ltb}
+use mathlib.Core.List.{List}
+use mathlib.Core.Path.{_≡_, refl, sym, _∙_, ap}
+use Prim.Native.Nat.{ℕ, _≤_, _<_}
+use native.Mathlib.Omega.{arith}
+use lib.IntN.{ℤ, pos}
+use lib.ListN.{length}
+use mir.Syntax.{w64}
+use mir.Val.{toZ}
+use mir.Facts.{toZ-pos}
+use Rattle.knot.specs.declared.table.Refusal.the-variants as Refusals
+use Rattle.block.specs.Block.{block, blockMax, written}
+use Rattle.block.proofs.Written.{block-length}
+use Rattle.reel.specs.Calls.{write, replyTo, left, output}
+use Rattle.reel.specs.Machine.{scans, Held, Does}
+use Rattle.reel.specs.declared.calls.Reel.{Reel}
+use Rattle.reel.specs.declared.answer.Answer.the-variants as Answers
+use Rattle.reel.proofs.Scans.{scans-of}
+use Rattle.reel.proofs.calls.Promises.{refuses}
+use Rattle.reel.proofs.calls.Reel.write.Statement.{statement}
+use Rattle.reel.proofs.calls.Reel.write.Tie as tie
+
+length-requires : tie.Need-length-requires
+length-requires c κs = search needs
+
+returns : tie.Need-returns
+returns c =
+    let b = c .before .before .before .before in
+    let r = b .args .self in
+    let size = length (block (scans r)) in
+    let short : length (b .args .out .now) < size = omega (arith, c .if1 .taken, c .before .length .ensures, ap (λ s. length (block s)) (sym (scans-of (r .knots) (r .count)))) in
+    refuses (write (b .args .out .now)) r Refusals.Output (b .pre) (rw (lt-ltb (length (b .args .out .now)) size short) refl)
+
+write-requires : tie.Need-write-requires
+write-requires c κs = search needs
+
+cast-t13 : tie.Need-cast-t13
+cast-t13 c = search needs
+
+same-length : tie.Need-same-length
+same-length c = search needs
+
+-- the output has room
+writes : (r : Reel) (out after : List ℕ) (z : ℤ) → Held r → length (block (scans r)) ≤ length out → z ≡ pos (length (block (scans r))) →
+    after ≡ written (scans r) out → Does (write out) r (Answers.Number z) r after
+unfolding replyTo left output
+writes r out after z held room e q =
+    let fits = le-ltb (length out) (length (block (scans r))) room in
+    record {
+      replies = rw (fits, e) refl;
+      leaves = rw fits refl;
+      held = held;
+      kept = λ n. refl;
+      writes = rw fits q;
+    }
+
+returns-2 : tie.Need-returns-2
+returns-2 c =
+    let e = c .before .before .before .before in
+    let b = e .before .before .before .before in
+    let r = b .args .self in
+    let n = c .before .before .write in
+    let are = sym (scans-of (r .knots) (r .count)) in
+    let size : n .result ≡ length (block (scans r)) = n .ensures .0 ∙ ap (λ s. length (block s)) are in
+    let most : length (block (scans r)) ≤ blockMax = block-length (scans r) (b .pre .standing) in
+    let room : length (block (scans r)) ≤ length (b .args .out .now) = omega (arith, e .if1 .left, e .before .length .ensures, ap (λ s. length (block s)) are) in
+    writes r (b .args .out .now) _ (toZ w64 (n .result)) (b .pre) room
+    (toZ-pos w64 {n = n .result} (omega (arith, most, size)) ∙ ap pos size) (n .ensures .1 ∙ ap (λ s. written s (b .args .out .now)) are)
+
+pub write-spec : {M : Type 1} → statement M
+write-spec = tie.close (tie.spec length-requires returns write-requires cast-t13 same-length returns-2)
