@@ -35,14 +35,3 @@ pub fn shown(handed: Handed) -> Reel
     told(answer);
     handed.reel
 }
-
-// Whether two reels are the same.
-pub fn compared(a: Reel, b: Reel)
-    requires { ⌜ (Held a) × (Held b) ⌝ }
-{
-    if a.same(b) {
-        io::write_all(1, b"yes\n");
-    } else {
-        io::write_all(1, b"no\n");
-    }
-}

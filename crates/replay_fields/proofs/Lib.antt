@@ -1,0 +1,5 @@
+pub mod Answers
+pub mod Fields
+pub mod Lists
+pub mod Numbers
+pub mod Pairs

@@ -1,0 +1,36 @@
+// The fields of a line: where one ends, and whether it is a word.
+ghost use mathlib.Core.Path.{_≡_};
+ghost use Prim.Native.Nat.{_≤_};
+ghost use lib.ListN.{length};
+ghost use Rattle.replay_fields.specs.Fields.{FieldEnds, sameBytes};
+
+// The next space from a place on, or the end of the line.
+pub fn field_end(line: &[u8], at: usize) -> usize
+    requires { ⌜ at ≤ length (now line) ⌝ }
+    ensures { λ r. ⌜ FieldEnds (now (line .entry)) at r ⌝ }
+{
+    let mut end = at;
+    while end < line.len() {
+        if line[end] == b' ' {
+            return end;
+        }
+        end += 1;
+    }
+    end
+}
+
+pub fn is_word(field: &[u8], word: &[u8]) -> bool
+    ensures { λ b. ⌜ b ≡ sameBytes (now (field .entry)) (now (word .entry)) ⌝ }
+{
+    if field.len() != word.len() {
+        return false;
+    }
+    let mut i = 0;
+    while i < field.len() {
+        if field[i] != word[i] {
+            return false;
+        }
+        i += 1;
+    }
+    true
+}
