@@ -11,7 +11,8 @@ pub struct Listed {
     pub count: usize,
 }
 
-// All fields from a place on, which is the start of one or past the end, are read; the first 9 numbers are kept.
+// All fields from a place on, which is the start of one or past the end, are read; the first 9 numbers are kept. That the list has 9 places is
+// what its type says; of a lent array the proof has to be told.
 pub fn coefficients(line: &[u8], at: usize, list: &mut [i32; 9]) -> Listed
     requires { ⌜ length (now list) ≡ 9 ⌝ }
     ensures { λ r. ⌜ Lists (fieldsFrom (now (line .entry)) at) r (now (list .exit)) ⌝ }
