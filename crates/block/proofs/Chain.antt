@@ -11,16 +11,17 @@ use lib.IntN.{pos}
 use lib.ListN.{length, getD, drop, drop-of-length-le}
 use lib.Seq.{drop-cons}
 use Rattle.integer.specs.Within.{Within}
-use Rattle.integer.proofs.Tests.{both, both-first, both-second}
+use Rattle.integer.proofs.Tests.{both}
 use Rattle.rounding.specs.Limits.{positionMax, gapMax, sizeMax}
 use Rattle.rounding.proofs.Bounds.{sized-one, one-within}
 use Rattle.rounding.specs.Size.{sized, Listed}
 use Rattle.knot.specs.Scan.{Scan, scanOf, gap, at, before, after, leftList, rightList}
-use Rattle.knot.specs.SizeRule.{sizeRule, follows}
+use Rattle.knot.specs.SizeRule.{follows}
 use Rattle.knot.specs.Standing.{Standing}
 use Rattle.knot.specs.RefusalTable.{positionCauses}
 use Rattle.knot.proofs.Causes.{Quiet}
 use Rattle.knot.proofs.Lists.{there, past}
+use Rattle.knot.proofs.Standing.{sized-right, sized-left}
 
 -- ---- a scan that may follow the last one, and whose coefficients have 30 bits
 
@@ -36,14 +37,6 @@ abbrev pub Chain : Option Scan → List Scan → Type 0
 Chain last [] = Unit
 Chain last (s ∷ scans) = Fit last s × Chain (some s) scans
 
-size-right : (l : Option Scan) (s r : Scan) → sizeRule l s (some r) ≡ true → sized (gap s (r .position)) (rightList s) ≡ true
-size-right none s r e = e
-size-right (some l) s r e = both-second (sized (gap l (s .position)) (leftList s)) _ e
-
-size-left : (l s : Scan) (r : Option Scan) → sizeRule (some l) s r ≡ true → sized (gap l (s .position)) (leftList s) ≡ true
-size-left l s none e = e
-size-left l s (some r) e = both-first (sized (gap l (s .position)) (leftList s)) _ e
-
 placed-after : (held : Scan) (x : ℕ) → x ≤ positionMax → 1 ≤ gap held x → gap held x ≤ gapMax → Quiet (positionCauses (some held) x)
 placed-after held x p a b = (rw (le-ltb positionMax x p, lt-leb x (held .position) (omega arith)), (le-ltb gapMax (gap held x) b, tt))
 
@@ -52,10 +45,6 @@ module _ (scans : List Scan) (st : Standing scans) where
   placed-at zero h = (rw (le-ltb positionMax (at scans 0 .position) (st .position 0 h)), (refl, tt))
   placed-at (suc k) h =
       rw (there scans k (omega arith)) (placed-after (at scans k) (at scans (suc k) .position) (st .position (suc k) h) (st .gapAtLeast k h) (st .gapAtMost k h))
-
-  -- a scan with a neighbour on its left, and the first
-  left-at : (k : ℕ) → suc k < length scans → sized (gap (at scans k) (at scans (suc k) .position)) (leftList (at scans (suc k))) ≡ true
-  left-at k h = size-left (at scans k) (at scans (suc k)) (after scans (suc k)) (rw (there scans k (omega arith)) at (st .size (suc k) h))
 
   first-at : 0 < length scans → sized 1 (leftList (at scans 0)) ≡ true
   first-at h = go (decLt 1 (length scans))
@@ -68,11 +57,11 @@ module _ (scans : List Scan) (st : Standing scans) where
   size-at zero h = first-at h
   size-at (suc k) h =
       rw (there scans k (omega arith))
-      (both (size-right (before scans k) (at scans k) (at scans (suc k)) (rw (there scans (suc k) h) at (st .size k (omega arith)))) (left-at k h))
+      (both (sized-right scans st k h) (sized-left scans st k h))
 
   one-at : (k : ℕ) → k < length scans → sized 1 (at scans k .coefficients) ≡ true
   one-at zero h = first-at h
-  one-at (suc k) h = sized-one (gap (at scans k) (at scans (suc k) .position)) (leftList (at scans (suc k))) (st .gapAtLeast k h) (left-at k h)
+  one-at (suc k) h = sized-one (gap (at scans k) (at scans (suc k) .position)) (leftList (at scans (suc k))) (st .gapAtLeast k h) (sized-left scans st k h)
 
   fit-at : (k : ℕ) → k < length scans → Fit (before scans k) (at scans k)
   fit-at k h = record {

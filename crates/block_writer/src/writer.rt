@@ -3,10 +3,9 @@ ghost use mathlib.Core.Path.{_≡_};
 ghost use Prim.Native.Nat.{_+_, _*_, _≤_};
 ghost use lib.ListN.{length as ListN·length};
 ghost use lib.Seq.{sets};
-ghost use Rattle.knot.specs.Machine.{Graded, scan, scansIn};
+ghost use Rattle.knot.specs.Machine.{Filled, Graded, scan, scansIn};
 ghost use Rattle.word.specs.Bytes.{bytes};
 ghost use Rattle.block.specs.Block.{block, scanWords, written};
-ghost use Rattle.block_writer.specs.Machine.{Writable};
 use block::EDITION;
 use knot::KNOTS_MAX;
 use knot::Knot;
@@ -18,7 +17,7 @@ use word::store;
 
 // The number of bytes of the block of the first `count` knots.
 pub fn length(knots: [Knot; KNOTS_MAX], count: usize) -> usize
-    requires { ⌜ Writable knots count ⌝ }
+    requires { ⌜ Filled knots count ⌝ }
     ensures { λ r. ⌜ r ≡ ListN·length (block (scansIn count knots)) ⌝ }
 {
     let mut words = 2;
@@ -49,7 +48,7 @@ fn write_knot(knot: Knot, out: &mut [u8], i: usize) -> usize
 
 // Puts that block in the first bytes, and gives their number.
 pub fn write(knots: [Knot; KNOTS_MAX], count: usize, out: &mut [u8]) -> usize
-    requires { ⌜ (Writable knots count) × (ListN·length (block (scansIn count knots)) ≤ ListN·length (now out)) ⌝ }
+    requires { ⌜ (Filled knots count) × (ListN·length (block (scansIn count knots)) ≤ ListN·length (now out)) ⌝ }
     ensures { λ r. ⌜ (r ≡ ListN·length (block (scansIn count knots))) × (now (out .exit) ≡ written (scansIn count knots) (now (out .entry))) ⌝ }
 {
     store(out, 0, header_word(count as u8, EDITION));

@@ -1,4 +1,3 @@
-pub mod Lists
 pub mod Machine
 pub mod Tables
 pub mod Rows

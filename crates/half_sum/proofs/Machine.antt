@@ -1,14 +1,13 @@
--- Whole numbers in the machine's 64 bits: the result of a call, and sums of products c_j × w_j, of which up to 8 fit.
+-- Whole numbers in the machine's 64 bits: sums of products c_j × w_j, of which up to 8 fit.
 use mathlib.Core.Path.{_≡_, refl}
 use mathlib.Core.List.{List}
-use Prim.Native.Nat.{ℕ, _+_, _*_, _^_, _≤_, _<_}
+use Prim.Native.Nat.{ℕ, _+_, _*_, _≤_}
 use native.Mathlib.Nat.{le-trans, lt-of-le-of-lt, mul-le-mul-right}
 use native.Mathlib.Numerals.{add-one}
 use native.Mathlib.Omega.{arith}
 use lib.Dec.{lit<}
 use lib.IntN.{ℤ, pos, _+ℤ_, _*ℤ_}
 use lib.ListN.{getD}
-use lib.Signed.{mag}
 use mir.Syntax.{w64}
 use mir.Val.{SFits, toZ, ofZ}
 use mir.Facts.{toZ-ofZ, toZ-pos}
@@ -17,12 +16,8 @@ use Rattle.integer.specs.Within.{Within}
 use Rattle.integer.proofs.Within.{within-natural, within-mul, within-fits, within-sum, shares-most}
 use Rattle.hermite.specs.Polynomial.{coefficient}
 use Rattle.hermite.specs.Water.{waterUnit}
-use Rattle.half_sum.specs.Lists.{Entries, Weights}
+use Rattle.knot_weights.specs.Lists.{Entries, Weights}
 use Rattle.rounding.specs.Limits.{sizeMax}
-
--- a call's result, as it is held
-pub result-is : (z : ℤ) → mag z < 2 ^ 63 → toZ w64 (ofZ w64 z) ≡ z
-result-is z h = toZ-ofZ (record { sfits = h })
 
 abbrev pub term : List ℕ → List ℤ → ℕ → ℤ
 term c w j = pos (getD c j 0) *ℤ coefficient w j

@@ -4,13 +4,13 @@ ghost use Prim.Native.Nat.{_*_, _≤_};
 ghost use Rattle.hermite.specs.Polynomial.{coefficient};
 ghost use Rattle.rounding.specs.HalfSum.{descended as HalfSum·descended, halfSum, lowerHalfSum};
 ghost use Rattle.rounding.specs.Limits.{gradeMax, sizeMax};
-ghost use Rattle.half_sum.specs.Divisor.{Fraction};
-ghost use Rattle.half_sum.specs.Lists.{Weights};
-use super::knot_weights::primed;
-use super::scaling::Divisor;
-use super::scaling::scaled;
-use super::scaling::scaled_times;
+ghost use Rattle.scaling.specs.Divisor.{Fraction};
+ghost use Rattle.knot_weights.specs.Lists.{Weights};
 use super::sums::sums;
+use knot_weights::primed;
+use scaling::Divisor;
+use scaling::scaled;
+use scaling::scaled_times;
 
 // The parts of a count that values are in.
 pub const VALUE_UNIT: i64 = 65_536;

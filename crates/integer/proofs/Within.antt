@@ -4,8 +4,10 @@ use Prim.Native.Nat.{ℕ, zero, suc, _+_, _*_, _^_, _≤_, _<_, min}
 use native.Mathlib.Nat.{mul-le-mul, mul-le-mul-right}
 use native.Mathlib.Omega.{arith}
 use lib.IntN.{ℤ, pos, negsuc, negℤ, _+ℤ_, _-ℤ_, _*ℤ_, natAbs, +ℤ-idl}
-use mir.Syntax.{Width}
-use mir.Val.{SFits, hbits}
+use lib.Signed.{mag}
+use mir.Syntax.{Width, w64}
+use mir.Val.{SFits, hbits, toZ, ofZ}
+use mir.Facts.{toZ-ofZ}
 use Rattle.integer.specs.Sum.{sum}
 use Rattle.integer.specs.Within.{up, dn, Within}
 use Rattle.integer.proofs.Difference.{_⊖_, as-⊖, ⊖-≡, ⊖-+}
@@ -53,6 +55,10 @@ within-fits w (negsuc n) h v = record { sfits = omega (arith, v .lo) }
 pub fits-within : (w : Width) (z : ℤ) → SFits w z → Within (2 ^ hbits w) z
 fits-within w (pos n) f = record { hi = omega (arith, f .sfits); lo = omega arith }
 fits-within w (negsuc n) f = record { hi = omega arith; lo = f .sfits }
+
+-- the result of a call, as it is held in 64 bits
+pub result-is : (z : ℤ) → mag z < 2 ^ 63 → toZ w64 (ofZ w64 z) ≡ z
+result-is z h = toZ-ofZ (record { sfits = h })
 
 pub within-natural : (n : ℕ) → Within n (pos n)
 within-natural n = record { hi = omega arith; lo = omega arith }

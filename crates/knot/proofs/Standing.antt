@@ -1,4 +1,5 @@
--- The empty list stands, and so does one that stands with a scan more that may follow (`Standing` of specs/Standing.antt).
+-- The empty list stands, and so does one that stands with a scan more that may follow (`Standing` of specs/Standing.antt); and the size
+-- rule at both ends of each gap of a list that stands.
 use mathlib.Core.Bool.{true}
 use mathlib.Core.List.{List, [], _∷_, _++_}
 use mathlib.Core.Option.{Option, none, some}
@@ -40,6 +41,23 @@ follows-held held s e = both-first (sized (gap held (s .position)) (rightList he
 follows-new : (last : Option Scan) (s : Scan) → follows last s ≡ true → sizeRule last s none ≡ true
 follows-new none s e = e
 follows-new (some held) s e = both-second (sized (gap held (s .position)) (rightList held)) (sizeRule (some held) s none) e
+
+-- ---- the size rule with the gap on one side of a scan, of scans that stand
+
+size-right : (l : Option Scan) (s r : Scan) → sizeRule l s (some r) ≡ true → sized (gap s (r .position)) (rightList s) ≡ true
+size-right none s r e = e
+size-right (some l) s r e = both-second (sized (gap l (s .position)) (leftList s)) (sized (gap s (r .position)) (rightList s)) e
+
+size-left : (l s : Scan) (r : Option Scan) → sizeRule (some l) s r ≡ true → sized (gap l (s .position)) (leftList s) ≡ true
+size-left l s none e = e
+size-left l s (some r) e = both-first (sized (gap l (s .position)) (leftList s)) (sized (gap s (r .position)) (rightList s)) e
+
+module _ (scans : List Scan) (st : Standing scans) (k : ℕ) (h : suc k < length scans) where
+  pub sized-right : sized (gap (at scans k) (at scans (suc k) .position)) (rightList (at scans k)) ≡ true
+  sized-right = size-right (before scans k) (at scans k) (at scans (suc k)) (rw (there scans (suc k) h) at (st .size k (omega arith)))
+
+  pub sized-left : sized (gap (at scans k) (at scans (suc k) .position)) (leftList (at scans (suc k))) ≡ true
+  sized-left = size-left (at scans k) (at scans (suc k)) (after scans (suc k)) (rw (there scans k (omega arith)) at (st .size (suc k) h))
 
 -- ---- append: the old scans, then the new one
 

@@ -1,14 +1,12 @@
 -- What the machine's knots and verdicts are in the model.
-use mathlib.Core.Bool.{true, cond}
 use mathlib.Core.List.{List, [], map}
 use mathlib.Core.Option.{Option, none, some}
 use mathlib.Core.Path.{_≡_}
-use Prim.Native.Nat.{ℕ, zero, suc, _+_, _≤_}
+use Prim.Native.Nat.{ℕ, zero, suc, _+_, _≤_, _<_}
 use lib.ListN.{length, take, getD}
-use Rattle.rounding.specs.Limits.{gradeMax, gapMax}
-use Rattle.knot.specs.Scan.{Scan, gap}
+use Rattle.rounding.specs.Limits.{knotsMax, gradeMax}
+use Rattle.knot.specs.Scan.{Scan}
 use Rattle.knot.specs.declared.held.Knot.{Knot}
-use Rattle.knot.specs.declared.following.Neighbour.{Neighbour}
 use Rattle.knot.specs.declared.table.Refusal.{Refusal}
 use Rattle.knot.specs.declared.table.Refusal.the-variants as Refusals
 use Rattle.knot.specs.declared.table.Verdict.{Verdict}
@@ -35,16 +33,11 @@ knotIn knots k = getD knots k (record { position = 0; grade = 0; coefficients = 
 abbrev pub scansIn : ℕ → List Knot → List Scan
 scansIn n knots = map scan (take n knots)
 
--- the scan of a neighbour
-abbrev pub neighbour : Neighbour → Option Scan
-neighbour n = cond (n .there) (some (scan (n .knot))) none
-
--- a neighbour on the left, if there is one, lies at most 16 steps before position x; one on the right as much after the knot
-abbrev pub CloseBefore : Neighbour → ℕ → Type 0
-CloseBefore n x = n .there ≡ true → gap (scan (n .knot)) x ≤ gapMax
-
-abbrev pub CloseAfter : Knot → Neighbour → Type 0
-CloseAfter k n = n .there ≡ true → gap (scan k) (n .knot .position) ≤ gapMax
+-- the first n knots of an array of 129 are filled, each with a grade of 0 to 7
+pub record Filled (knots : List Knot) (n : ℕ) : Type 0 where
+  pub room : length knots ≡ knotsMax
+  pub count : n ≤ knotsMax
+  pub graded : (k : ℕ) → k < n → Graded (knotIn knots k)
 
 -- the paper's number of each cause
 abbrev pub number : Refusal → ℕ

@@ -1,11 +1,9 @@
 -- Document 01, "Refusal table": its rows, each a cause that holds or not, with its number; and the first cause that holds.
--- Rows 7 and 8, and the other half of row 9, belong to calls that do not stand yet.
 use mathlib.Core.Bool.{Bool, false, not, _||_, cond}
 use mathlib.Core.List.{List, [], _∷_}
 use mathlib.Core.Option.{Option, none, some}
 use Prim.Native.Nat.{ℕ, _+_}
 use lib.Dec.{eqb, leb, ltb}
-use lib.ListN.{length}
 use Rattle.rounding.specs.Limits.{knotsMax, positionMax, gradeMax, gapMax}
 use Rattle.knot.specs.Scan.{Scan, gap}
 use Rattle.knot.specs.SizeRule.{follows}
@@ -53,9 +51,20 @@ wideGap last x = record { number = 5; holds = wide last }
 abbrev pub badSize : Bool → Cause
 badSize kept = record { number = 6; holds = not kept }
 
--- no knot k
-abbrev pub noKnot : ℕ → List Scan → Cause
-noKnot k scans = record { number = 9; holds = leb (length scans) k }
+-- position before the first or after the last knot, all in 1/256 step
+abbrev pub outside : ℕ → ℕ → ℕ → Cause
+outside from to x = record { number = 7; holds = ltb x from || ltb to x }
+
+-- fewer than two knots, in a query
+abbrev pub tooFew : ℕ → Cause
+tooFew count = record { number = 8; holds = ltb count 2 }
+
+-- no knot k; or i above j, or no knot j
+abbrev pub noKnot : ℕ → ℕ → Cause
+noKnot k count = record { number = 9; holds = leb count k }
+
+abbrev pub noRange : ℕ → ℕ → ℕ → Cause
+noRange i j count = record { number = 9; holds = ltb j i || leb count j }
 
 -- output shorter than the block
 abbrev pub shortOutput : ℕ → ℕ → Cause

@@ -1,6 +1,6 @@
 // A knot as a reel holds it: plain data.
 ghost use mathlib.Core.Path.{_≡_};
-ghost use Prim.Native.Nat.{_+_, _≤_};
+ghost use Prim.Native.Nat.{_+_, _-_, _≤_};
 ghost use lib.ListN.{length, take};
 ghost use Rattle.rounding.specs.Limits.{gapMax, gradeMax};
 ghost use Rattle.rounding.specs.Size.{Listed, sized as Size·sized};
@@ -70,4 +70,11 @@ impl Knot {
         let c = self.coefficients;
         c[0]
     }
+}
+
+// The steps from one position to the next.
+pub fn gap(from: u16, to: u16) -> u64
+    ensures { λ r. ⌜ r ≡ to - from ⌝ }
+{
+    if to < from { 0 } else { (to - from) as u64 }
 }

@@ -7,15 +7,13 @@ ghost use Rattle.rounding.specs.Trend.{trend as Trend·trend};
 ghost use Rattle.rounding.specs.Value.{value as Value·value};
 use super::slope::scaled_k;
 use super::slope::sum_k;
-use half_sum::Divisor;
 use half_sum::half_sum;
 use half_sum::lower_half_sum;
-use half_sum::right_weights;
-use half_sum::scaled;
-use half_sum::weights;
-
-// The parts of a step that positions are in.
-const POSITION_UNIT: u64 = 256;
+use knot_weights::right_weights;
+use knot_weights::weights;
+use rounding::POSITION_UNIT;
+use scaling::Divisor;
+use scaling::scaled;
 
 // The value: a half-sum from each end.
 pub fn value(h: u64, left: &[i32], right: &[i32], r: u64) -> i64

@@ -4,15 +4,15 @@ ghost use Prim.Native.Nat.{_*_, _≤_};
 ghost use Rattle.integer.specs.Within.{Within};
 ghost use Rattle.hermite.specs.Polynomial.{coefficient};
 ghost use Rattle.hermite.specs.Slope.{sumK};
-ghost use Rattle.half_sum.specs.Divisor.{Fraction};
-ghost use Rattle.half_sum.specs.Lists.{Weights};
+ghost use Rattle.scaling.specs.Divisor.{Fraction};
+ghost use Rattle.knot_weights.specs.Lists.{Weights};
 ghost use Rattle.rounding.specs.Limits.{gradeMax, sizeMax};
 ghost use Rattle.rounding.specs.Trend.{scaledK};
 use half_sum::BINOMIALS;
-use half_sum::Divisor;
 use half_sum::VALUE_UNIT;
-use half_sum::scaled_times;
 use half_sum::weighted;
+use scaling::Divisor;
+use scaling::scaled_times;
 
 // One of the two sums of K. What multiplies w_j there, (m+n−j+1) × binomial(m+n−j, m−j), is (n+1) × binomial(n+1+m−j, m−j):
 // n+1 times an entry of the table.

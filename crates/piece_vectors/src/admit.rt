@@ -1,4 +1,4 @@
-// Whether a case is a piece that a reel can have, which the functions of `piece` require. Promised is that a yes is right; that a no is,
+// Whether a case is a piece that a reel can have, which the functions of `piece` and `water` require. Promised is that a yes is right; that a no is,
 // the stored output shows: it has no `refused`.
 ghost use mathlib.Core.Bool.{true};
 ghost use mathlib.Core.Path.{_≡_};
@@ -8,6 +8,7 @@ ghost use Rattle.rounding.specs.Size.{Admitted};
 use knot::COEFFICIENTS_MAX;
 use knot::GAP_MAX;
 use knot::sized;
+use rounding::POSITION_UNIT;
 
 pub fn admitted(h: u64, left: &[i32], right: &[i32], r: u64) -> bool
     ensures { λ b. ⌜ (b ≡ true → (Admitted (piece h (now (left .entry)) (now (right .entry)))) × (r ≤ 256 * h)) ⌝ }
@@ -18,7 +19,7 @@ pub fn admitted(h: u64, left: &[i32], right: &[i32], r: u64) -> bool
     if GAP_MAX < h {
         return false;
     }
-    if 256 * h < r {
+    if POSITION_UNIT * h < r {
         return false;
     }
     if left.len() < 1 {

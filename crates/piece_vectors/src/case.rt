@@ -1,26 +1,15 @@
 // One case: its fields, and its answers on standard output.
 ghost use mathlib.Core.Path.{_≡_};
-ghost use Prim.Native.Nat.{_+_, _^_, _≤_, _<_};
+ghost use Prim.Native.Nat.{_+_, _<_};
 ghost use lib.ListN.{length};
 ghost use Rattle.rounding.specs.Limits.{gradeMax};
 use super::admit::admitted;
-use super::text::number;
+use super::number::number;
 use knot::COEFFICIENTS_MAX;
-
-// 32 bits, low byte first.
-fn word(bytes: &[u8], at: usize) -> u64
-    requires { ⌜ at + 4 ≤ length (now bytes) ⌝ }
-    ensures { λ r. ⌜ r < 2 ^ 32 ⌝ }
-{
-    let low = bytes[at] as u64 + 256 * bytes[at + 1] as u64;
-    let high = bytes[at + 2] as u64 + 256 * bytes[at + 3] as u64;
-    low + 65_536 * high
-}
+use word::load;
 
 // A magnitude below 2^31, and 2^31 more for a negative number.
-fn signed(word: u64) -> i32
-    requires { ⌜ word < 2 ^ 32 ⌝ }
-{
+fn signed(word: u32) -> i32 {
     if word < 2_147_483_648 {
         word as i32
     } else {
@@ -28,15 +17,15 @@ fn signed(word: u64) -> i32
     }
 }
 
-// The 8 coefficients from a byte on.
-fn coefficients(bytes: &[u8], at: usize) -> [i32; COEFFICIENTS_MAX]
-    requires { ⌜ at + 32 ≤ length (now bytes) ⌝ }
+// The 8 coefficients from a word on.
+fn coefficients(bytes: &[u8], from: usize) -> [i32; COEFFICIENTS_MAX]
+    requires { ⌜ from < 20 ⌝ }
     ensures { λ c. ⌜ gradeMax + 1 ≡ length c ⌝ }
 {
     let mut c = [0i32; COEFFICIENTS_MAX];
     let mut j = 0;
     while j < COEFFICIENTS_MAX {
-        c[j] = signed(word(bytes, at + 4 * j));
+        c[j] = signed(load(bytes, from + j));
         j += 1;
     }
     c
@@ -54,15 +43,13 @@ fn answer(h: u64, left: &[i32], right: &[i32], r: u64) {
 }
 
 // Answers the case in these bytes; one with more than 8 coefficients at an end is passed over.
-pub fn run(bytes: &[u8])
-    requires { ⌜ 80 ≤ length (now bytes) ⌝ }
-{
-    let h = word(bytes, 0);
-    let left_count = word(bytes, 4) as usize;
-    let right_count = word(bytes, 8) as usize;
-    let r = word(bytes, 12);
-    let left = coefficients(bytes, 16);
-    let right = coefficients(bytes, 48);
+pub fn run(bytes: &[u8]) {
+    let h = load(bytes, 0) as u64;
+    let left_count = load(bytes, 1) as usize;
+    let right_count = load(bytes, 2) as usize;
+    let r = load(bytes, 3) as u64;
+    let left = coefficients(bytes, 4);
+    let right = coefficients(bytes, 12);
     if COEFFICIENTS_MAX < left_count {
         return;
     }

@@ -3,7 +3,7 @@
 // coefficients, each a magnitude with 2^31 more where it is negative; those past the numbers are not used.
 mod admit;
 mod case;
-mod text;
+mod number;
 
 // More cases than are stored, so that the loop has an end.
 const CASES_MAX: usize = 65536;

@@ -1,4 +1,6 @@
 pub mod Scans
 pub mod Standing
+mod Replies
 pub mod Sequences
 pub mod RoundTrips
+pub mod KnownResults

@@ -13,7 +13,8 @@ use lib.ListN.{length, take, set, getElem?}
 use lib.Seq.{take-set-lt}
 use Rattle.rounding.specs.Limits.{knotsMax, gapMax}
 use Rattle.knot.specs.Scan.{Scan, gap, at, before, after}
-use Rattle.knot.specs.Machine.{scan, scansIn, neighbour, Graded}
+use Rattle.knot.specs.Machine.{scan, scansIn, Graded}
+use Rattle.following.specs.Machine.{neighbour}
 use Rattle.knot.specs.declared.held.Knot.{Knot}
 use Rattle.reel.specs.Machine.{scans, knotAt, Held}
 use Rattle.reel.specs.declared.calls.Reel.{Reel}
@@ -27,7 +28,7 @@ scans-of knots count = refl
 
 module _ (r : Reel) (held : Held r) where
   room : r .count ≤ length (r .knots)
-  room = omega (arith, held .room, held .count)
+  room = omega (arith, held .filled .room, held .filled .count)
 
   pub length-scans : length (scans r) ≡ r .count
   unfolding scans
@@ -52,12 +53,12 @@ module _ (r : Reel) (held : Held r) where
     where
       go : Dec (suc k < r .count) → neighbour (record { there = ltb (suc k) (r .count); knot = knotAt r i }) ≡ after (scans r) k
       go (yes h) =
-          let there : i ≡ suc k = omega (arith, held .count) in
+          let there : i ≡ suc k = omega (arith, held .filled .count) in
           rw (lt-ltb (suc k) (r .count) h, there) (sym (element-is (suc k) h))
       go (no h) = rw (le-ltb (suc k) (r .count) (omega arith)) (sym (past (scans r) (suc k) (omega (arith, length-scans))))
 
   pub before-graded : (k i : ℕ) → i ≡ k - 1 → k ≤ r .count → ltb 0 k ≡ true → Graded (knotAt r i)
-  before-graded k i e h there = held .graded i (omega (arith, ltb-true 0 k there))
+  before-graded k i e h there = held .filled .graded i (omega (arith, ltb-true 0 k there))
 
   -- the gaps to them
   pub gap-before : (k i y : ℕ) → i ≡ k - 1 → k < r .count → y ≡ knotAt r k .position → ltb 0 k ≡ true → gap (scan (knotAt r i)) y ≤ gapMax
@@ -69,14 +70,14 @@ module _ (r : Reel) (held : Held r) where
   pub gap-after : (k i : ℕ) (s : Scan) → i ≡ min (k + 1) (knotsMax - 1) → s .position ≡ knotAt r k .position → ltb (k + 1) (r .count) ≡ true → gap s (knotAt r i .position) ≤ gapMax
   gap-after k i s e q there =
       let h : k + 1 < r .count = ltb-true (k + 1) (r .count) there in
-      let forth : i ≡ suc k = omega (arith, held .count) in
+      let forth : i ≡ suc k = omega (arith, held .filled .count) in
       let next : suc k < length (scans r) = omega (arith, length-scans) in
       rw (q, forth) (rw (at-scans k (omega arith), at-scans (suc k) (omega arith)) at (held .standing .gapAtMost k next))
 
   -- one knot more, and another one in place k
   pub scans-appended : (k : Knot) → r .count < knotsMax → scans (record { knots = set (r .knots) (r .count) k; count = r .count + 1 }) ≡ scans r ++ scan k ∷ []
   unfolding scans
-  scans-appended k h = scans-stored (r .knots) (r .count) k (omega (arith, held .room))
+  scans-appended k h = scans-stored (r .knots) (r .count) k (omega (arith, held .filled .room))
 
   pub scans-corrected : (i : ℕ) (k : Knot) → i < r .count → scans (record { knots = set (r .knots) i k; count = r .count }) ≡ set (scans r) i (scan k)
   unfolding scans

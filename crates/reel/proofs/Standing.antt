@@ -18,7 +18,7 @@ use Rattle.knot.specs.Standing.{Standing}
 use Rattle.knot.proofs.Causes.{quiet, listed, placed}
 use Rattle.knot.proofs.Standing.{standing-none, appended-standing}
 use Rattle.block.proofs.Written.{read-standing}
-use Rattle.reel.specs.Calls.{Call, clear, append, correct, read, write, corrected, causes, changed, kept, left}
+use Rattle.reel.specs.Calls.{Call, clear, append, correct, read, write, value, trend, total, corrected, causes, changed, kept, left}
 
 -- ---- the size rule looks at the positions of the neighbours
 
@@ -113,6 +113,9 @@ changed-standing (correct k C) scans st e =
     (not-false (sizeRule (before scans k) s (after scans k)) (q .1 .1 .0))
 changed-standing (read bytes) scans st e = read-standing bytes e
 changed-standing (write out) scans st e = st
+changed-standing (value x) scans st e = st
+changed-standing (trend x) scans st e = st
+changed-standing (total i j) scans st e = st
 
 -- if a cause holds, the list stays as it was
 kept-standing : (o : Option ℕ) (scans new : List Scan) → Standing scans → (o ≡ none → Standing new) → Standing (kept o scans new)

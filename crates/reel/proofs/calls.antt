@@ -1,2 +1,2 @@
-mod Causes
 mod Promises
+mod Tested

@@ -1,4 +1,5 @@
 pub mod Calls
 pub mod Same
+pub mod KnownResults
 pub mod Machine
 pub mod Sequences

@@ -3,13 +3,12 @@ use mathlib.Core.Bool.{false}
 use mathlib.Core.List.{List}
 use mathlib.Core.Option.{none}
 use mathlib.Core.Path.{_≡_}
-use Prim.Native.Nat.{ℕ, _≤_, _<_}
-use lib.ListN.{length}
+use Prim.Native.Nat.{ℕ}
 use Rattle.rounding.specs.Limits.{knotsMax, gradeMax, gapMax, sizeMax}
 use Rattle.knot.specs.Scan.{Scan}
 use Rattle.knot.specs.Standing.{Standing}
 use Rattle.knot.specs.RefusalTable.{first}
-use Rattle.knot.specs.Machine.{Graded, knotIn, scansIn, number as refusalNumber}
+use Rattle.knot.specs.Machine.{Filled, knotIn, scansIn, number as refusalNumber}
 use Rattle.knot.specs.declared.held.Knot.{Knot}
 use Rattle.reel.specs.Calls.{Call, Reply, accepted, number, refused, causes, changes, replyTo, left, output}
 use Rattle.reel.specs.declared.calls.Reel.{Reel}
@@ -26,9 +25,7 @@ knotAt r k = knotIn (r .knots) k
 
 -- the invariant of a held reel: room for 129 knots, a grade of 0 to 7 at each that stands, and scans that can stand
 pub record Held (r : Reel) : Type 0 where
-  pub room : length (r .knots) ≡ knotsMax
-  pub count : r .count ≤ knotsMax
-  pub graded : (k : ℕ) → k < r .count → Graded (knotAt r k)
+  pub filled : Filled (r .knots) (r .count)
   pub standing : Standing (scans r)
 
 -- constants for knots, gap, grade and size are the paper's limits

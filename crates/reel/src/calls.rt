@@ -2,24 +2,25 @@
 ghost use mathlib.Core.List.{[]};
 ghost use mathlib.Core.Path.{_≡_};
 ghost use lib.ListN.{length};
-ghost use Rattle.knot.specs.Machine.{Graded, scan};
-ghost use Rattle.reel.specs.Calls.{append as Calls·append, clear as Calls·clear, correct as Calls·correct, positionOf, read as Calls·read, write as Calls·write};
+ghost use Rattle.knot.specs.RefusalTable.{first as RefusalTable·first};
+ghost use Rattle.knot.specs.Machine.{Graded, refusal, scan};
+ghost use Rattle.reel.specs.Calls.{causes, append as Calls·append, clear as Calls·clear, correct as Calls·correct, positionOf, read as Calls·read, total as Calls·total, trend as Calls·trend, value as Calls·value, write as Calls·write};
 ghost use Rattle.reel.specs.Machine.{AreTheLimits, Does, Held, replyOf, scans};
+ghost use Rattle.reel.specs.declared.answer.Answer.the-variants as Answers;
 ghost use Rattle.reel.specs.Same.{agree as Same·agree, same as Same·same};
 use crate::answer::Answer;
 use crate::answer::Handed;
 use crate::index::before;
 use crate::index::inside;
+use call_tests::append_test;
+use call_tests::correct_test;
+use call_tests::query_test;
+use call_tests::range_test;
 use knot::COEFFICIENTS_MAX;
 use knot::KNOTS_MAX;
 use knot::Knot;
-use knot::Neighbour;
 use knot::Refusal;
 use knot::Verdict;
-use knot::list_test;
-use knot::position_test;
-use knot::size_rule;
-use knot::size_test;
 
 // The first `count` knots are the list; the others are free.
 pub struct Reel {
@@ -51,6 +52,16 @@ impl Reel {
         Self { knots, count: 0 }
     }
 
+    // A refusal hands back the reel as it was.
+    fn refused(self, cause: Refusal) -> Handed
+        ensures { λ r. ⌜ (r .reel ≡ self) × (r .answer ≡ Answers.Refused cause) ⌝ }
+    {
+        Handed {
+            reel: self,
+            answer: Answer::Refused(cause),
+        }
+    }
+
     // The empty list.
     pub fn clear(mut self) -> Handed
         requires { ⌜ Held self ⌝ }
@@ -63,44 +74,21 @@ impl Reel {
         }
     }
 
-    // The list with one knot more at its end: 2, 3, the position test, the size test.
+    // The list with one knot more at its end.
     pub fn append(mut self, position: u32, coefficients: &[i32]) -> Handed
         requires { ⌜ Held self ⌝ }
         ensures { λ r. ⌜ Does (Calls·append position (now (coefficients .entry))) self (r .answer) (r .reel) [] ⌝ }
     {
         let count = self.count;
-        if KNOTS_MAX <= count {
-            return Handed {
-                reel: self,
-                answer: Answer::Refused(Refusal::Full),
-            };
+        let last = before(count);
+        let held = self.knots[last];
+        let tested = append_test(count, held, position, coefficients);
+        let verdict = tested.verdict;
+        if let Verdict::Refused(cause) = verdict {
+            return self.refused(cause);
         }
-        if let Verdict::Refused(cause) = list_test(coefficients.len()) {
-            return Handed {
-                reel: self,
-                answer: Answer::Refused(cause),
-            };
-        }
-        let at = before(count);
-        let held = self.knots[at];
-        let last = Neighbour {
-            there: 0 < count,
-            knot: held,
-        };
-        if let Verdict::Refused(cause) = position_test(last, position) {
-            return Handed {
-                reel: self,
-                answer: Answer::Refused(cause),
-            };
-        }
-        let next = Knot::of(position as u16, coefficients);
-        if let Verdict::Refused(cause) = size_test(last, next) {
-            return Handed {
-                reel: self,
-                answer: Answer::Refused(cause),
-            };
-        }
-        self.knots[count] = next;
+        let new = tested.knot;
+        self.knots[count] = new;
         self.count = count + 1;
         Handed {
             reel: self,
@@ -108,45 +96,30 @@ impl Reel {
         }
     }
 
-    // Knot k with other coefficients: 9, 3, then the size rule at each gap beside the knot.
+    // Knot k with other coefficients.
     pub fn correct(mut self, k: u32, coefficients: &[i32]) -> Handed
         requires { ⌜ Held self ⌝ }
         ensures { λ r. ⌜ Does (Calls·correct k (now (coefficients .entry))) self (r .answer) (r .reel) [] ⌝ }
     {
-        let count = self.count;
-        let at = k as usize;
-        if count <= at {
-            return Handed {
-                reel: self,
-                answer: Answer::Refused(Refusal::Index),
-            };
-        }
-        if let Verdict::Refused(cause) = list_test(coefficients.len()) {
-            return Handed {
-                reel: self,
-                answer: Answer::Refused(cause),
-            };
-        }
+        let at = inside(k as usize);
         let old = self.knots[at];
-        let new = Knot::of(old.position, coefficients);
-        let left_at = before(at);
-        let previous = self.knots[left_at];
-        let left = Neighbour {
-            there: 0 < at,
-            knot: previous,
-        };
-        let right_at = inside(at + 1);
-        let following = self.knots[right_at];
-        let right = Neighbour {
-            there: at + 1 < count,
-            knot: following,
-        };
-        if !size_rule(left, new, right) {
-            return Handed {
-                reel: self,
-                answer: Answer::Refused(Refusal::Size),
-            };
+        let left = before(at);
+        let previous = self.knots[left];
+        let right = inside(at + 1);
+        let following = self.knots[right];
+        let tested = correct_test(
+            k as usize,
+            self.count,
+            previous,
+            old,
+            following,
+            coefficients,
+        );
+        let verdict = tested.verdict;
+        if let Verdict::Refused(cause) = verdict {
+            return self.refused(cause);
         }
+        let new = tested.knot;
         self.knots[at] = new;
         Handed {
             reel: self,
@@ -162,10 +135,7 @@ impl Reel {
         let contents = block_reader::read(bytes);
         let refusal = contents.refusal;
         if refusal != 0 {
-            return Handed {
-                reel: self,
-                answer: Answer::Refused(Refusal::numbered(refusal)),
-            };
+            return self.refused(Refusal::numbered(refusal));
         }
         let knots = contents.knots;
         self.knots = knots;
@@ -184,15 +154,70 @@ impl Reel {
         let knots = self.knots;
         let count = self.count;
         if out.len() < block_writer::length(knots, count) {
-            return Handed {
-                reel: self,
-                answer: Answer::Refused(Refusal::Output),
-            };
+            return self.refused(Refusal::Output);
         }
         let size = block_writer::write(knots, count, out);
         Handed {
             reel: self,
             answer: Answer::Number(size as i64),
+        }
+    }
+
+    // The test of a query position, between the first knot and the last.
+    fn query_tested(self, x: u32) -> Verdict
+        requires { ⌜ Held self ⌝ }
+        ensures { λ v. ⌜ refusal v ≡ RefusalTable·first (causes (Calls·value x) (scans self)) ⌝ }
+    {
+        let count = self.count;
+        let end = before(count);
+        let first = self.knots[0];
+        let last = self.knots[end];
+        query_test(count, first.position, last.position, x)
+    }
+
+    // The value at query position x, in 1/65,536 count.
+    pub fn value(self, x: u32) -> Handed
+        requires { ⌜ Held self ⌝ }
+        ensures { λ r. ⌜ Does (Calls·value x) self (r .answer) (r .reel) [] ⌝ }
+    {
+        if let Verdict::Refused(cause) = self.query_tested(x) {
+            return self.refused(cause);
+        }
+        let knots = self.knots;
+        Handed {
+            reel: self,
+            answer: Answer::Number(chain::value(knots, self.count, x)),
+        }
+    }
+
+    // The trend there, in 1/65,536 count per step. It refuses what value refuses.
+    pub fn trend(self, x: u32) -> Handed
+        requires { ⌜ Held self ⌝ }
+        ensures { λ r. ⌜ Does (Calls·trend x) self (r .answer) (r .reel) [] ⌝ }
+    {
+        if let Verdict::Refused(cause) = self.query_tested(x) {
+            return self.refused(cause);
+        }
+        let knots = self.knots;
+        Handed {
+            reel: self,
+            answer: Answer::Number(chain::trend(knots, self.count, x)),
+        }
+    }
+
+    // The total of pieces i to j − 1, in 1/720,720 of a count × step: 8, then 9. The reel's is from 0 to the last knot.
+    pub fn total(self, i: u32, j: u32) -> Handed
+        requires { ⌜ Held self ⌝ }
+        ensures { λ r. ⌜ Does (Calls·total i j) self (r .answer) (r .reel) [] ⌝ }
+    {
+        let count = self.count;
+        if let Verdict::Refused(cause) = range_test(count, i, j) {
+            return self.refused(cause);
+        }
+        let knots = self.knots;
+        Handed {
+            reel: self,
+            answer: Answer::Number(chain::total(knots, count, i as usize, j as usize)),
         }
     }
 

@@ -1,16 +1,15 @@
--- Laws of the fields of a line, as a loop over its bytes meets them; and fields that are the sameBytes are equal.
-use borrow.Author.Tests.{eq-eqb, ne-eqb, eqb-true}
-use mathlib.Core.Bool.{Bool, true, false, _&&_, cond, true≢false}
+-- Laws of the fields of a line, as a loop over its bytes meets them.
+use borrow.Author.Tests.{eq-eqb, ne-eqb}
+use mathlib.Core.Bool.{Bool, true, false, cond}
 use mathlib.Core.List.{List, [], _∷_, _++_, append-assoc, append-nil}
-use mathlib.Core.Path.{_≡_, refl, sym, ap, ap₂, _∙_}
+use mathlib.Core.Path.{_≡_, refl, sym, ap, _∙_}
 use Prim.Native.Nat.{ℕ, zero, suc, _+_, _-_, _≤_, _<_}
 use native.Mathlib.Numerals.{add-one}
 use native.Mathlib.Omega.{arith}
 use lib.Dec.{eqb}
 use lib.ListN.{length, getD, drop, length-drop}
-use lib.Seq.{take-suc, getD-drop, drop-cons}
-use Rattle.integer.proofs.Tests.{not-yes}
-use Rattle.replay_fields.specs.Fields.{onto, fields, fieldsFrom, part, FieldEnds, sameBytes}
+use lib.Seq.{take-suc, getD-drop}
+use Rattle.replay_fields.specs.Fields.{onto, fields, fieldsFrom, part, FieldEnds}
 
 -- ---- one byte further, the end, and past it
 
@@ -92,29 +91,8 @@ module _ (line : List ℕ) (at : ℕ) where
       ∙ ap (ahead (part line at end)) (ap (fieldsFrom line) e ∙ last line)
       ∙ rw (append-nil, past line (end + 1) (omega arith)) refl
 
--- ---- a field that ends the line, and one that does not
+-- ---- a field that ends the line
 
 module _ {line : List ℕ} {at end : ℕ} (ends : FieldEnds line at end) where
   pub last-field : length line ≤ end → fieldsFrom line at ≡ part line at end ∷ []
   last-field h = ends .splits ∙ ap (λ fs. part line at end ∷ fs) (past line (end + 1) (omega arith))
-
-  pub another-field : end < length line → (f : List ℕ) × (fs : List (List ℕ)) × (fieldsFrom line at ≡ part line at end ∷ f ∷ fs)
-  another-field h = let next = there line (end + 1) (omega arith) in (next .0, next .1, ends .splits ∙ ap (λ fs. part line at end ∷ fs) (next .2))
-
--- ---- words
-
-pub same-next : (a b : List ℕ) (i : ℕ) → i < length a → i < length b → sameBytes (drop i a) (drop i b) ≡ (eqb (getD a i 0) (getD b i 0) && sameBytes (drop (suc i) a) (drop (suc i) b))
-same-next a b i h k = ap₂ sameBytes (drop-cons a i 0 h) (drop-cons b i 0 k)
-
-same-cons : (x y : ℕ) (xs ys : List ℕ) (t : Bool) → eqb x y ≡ t → (sameBytes xs ys ≡ true → xs ≡ ys) → (t && sameBytes xs ys) ≡ true → x ∷ xs ≡ y ∷ ys
-same-cons x y xs ys true e ih h = ap₂ (λ z zs. z ∷ zs) (eqb-true x y e) (ih h)
-same-cons x y xs ys false e ih h = absurd (true≢false (sym h))
-
-pub same→eq : (a b : List ℕ) → sameBytes a b ≡ true → a ≡ b
-same→eq [] [] e = refl
-same→eq [] (y ∷ ys) e = absurd (true≢false (sym e))
-same→eq (x ∷ xs) [] e = absurd (true≢false (sym e))
-same→eq (x ∷ xs) (y ∷ ys) e = same-cons x y xs ys (eqb x y) refl (same→eq xs ys) e
-
-pub longer : (a b : List ℕ) → (length a ≡ length b → ⊥) → sameBytes a b ≡ false
-longer a b h = not-yes (sameBytes a b) (λ e. h (ap length (same→eq a b e)))

@@ -1,8 +1,7 @@
-// The fields of a line: where one ends, and whether it is a word.
-ghost use mathlib.Core.Path.{_≡_};
+// The fields of a line: where one ends.
 ghost use Prim.Native.Nat.{_≤_};
 ghost use lib.ListN.{length};
-ghost use Rattle.replay_fields.specs.Fields.{FieldEnds, sameBytes};
+ghost use Rattle.replay_fields.specs.Fields.{FieldEnds};
 
 // The next space from a place on, or the end of the line. Whether there is a field at a place is the caller's test: past the end there is
 // none, and no end of it.
@@ -18,20 +17,4 @@ pub fn field_end(line: &[u8], at: usize) -> usize
         end += 1;
     }
     end
-}
-
-pub fn is_word(field: &[u8], word: &[u8]) -> bool
-    ensures { λ b. ⌜ b ≡ sameBytes (now (field .entry)) (now (word .entry)) ⌝ }
-{
-    if field.len() != word.len() {
-        return false;
-    }
-    let mut i = 0;
-    while i < field.len() {
-        if field[i] != word[i] {
-            return false;
-        }
-        i += 1;
-    }
-    true
 }

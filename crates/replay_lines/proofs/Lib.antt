@@ -1,2 +1,4 @@
+pub mod Finding
 pub mod Calls
+pub mod Naming
 pub mod Telling

@@ -9,7 +9,7 @@ use Rattle.reel.specs.Calls.{Call}
 use Rattle.reel.specs.Machine.{Held, Does}
 use Rattle.reel.specs.declared.calls.Reel.{Reel}
 use Rattle.reel.specs.declared.answer.Answer.{Answer}
-use Rattle.replay_lines.specs.declared.told.Told.{Told}
+use Rattle.replay_lines.specs.declared.lines.Told.{Told}
 
 -- what a call hands back
 pub record HandsBack (call : Call) (given handed : Reel) : Type 0 where

@@ -1,87 +1,56 @@
 // `same HEX HEX`: two blocks, apart from the reel.
-ghost use Prim.Native.Nat.{_≤_};
-ghost use lib.ListN.{length};
 ghost use Rattle.reel.specs.Machine.{Held};
-use crate::told::put_line;
+ghost use Rattle.replay_lines.specs.Machine.{Within};
+use crate::arguments::Given;
+use crate::arguments::UNREADABLE;
 use reel::Answer;
+use reel::Handed;
 use reel::Reel;
-use replay_fields::field_end;
 use replay_fields::unhexed;
 
-// A reel read from a block on its own, if read accepts it; if not, any reel.
-struct Loaded {
-    accepted: bool,
-    reel: Reel,
-}
-
-fn apart(field: &[u8], room: &mut [u8]) -> Loaded
+// A reel read from a block on its own. A field that is no block gives no bytes, which read refuses.
+fn loaded(field: &[u8], room: &mut [u8]) -> Handed
     ensures { λ r. ⌜ Held (r .reel) ⌝ }
 {
-    let empty = Reel::empty();
-    let bytes = unhexed(field, room);
-    if !bytes.readable {
-        return Loaded {
-            accepted: false,
-            reel: empty,
-        };
-    }
-    let count = bytes.length;
-    let handed = empty.read(&room[..count]);
+    let count = unhexed(field, room).length;
+    Reel::empty().read(&room[..count])
+}
+
+fn accepted(handed: Handed) -> bool {
     let answer = handed.answer;
-    let reel = handed.reel;
-    if let Answer::Accepted = answer {
-        return Loaded {
-            accepted: true,
-            reel,
-        };
-    }
-    Loaded {
-        accepted: false,
-        reel,
+    match answer {
+        Answer::Accepted => true,
+        _ => false,
     }
 }
 
-pub enum Compared {
-    Unreadable,
-    Yes,
-    No,
-}
-
-pub(crate) fn compare(line: &[u8], at: usize, room: &mut [u8]) -> Compared {
-    if line.len() < at {
-        return Compared::Unreadable;
-    }
-    let end = field_end(line, at);
-    if line.len() <= end {
-        return Compared::Unreadable;
-    }
-    let from = end + 1;
-    let last = field_end(line, from);
-    if last < line.len() {
-        return Compared::Unreadable;
-    }
-    let first = apart(&line[at..end], room);
-    if !first.accepted {
-        return Compared::Unreadable;
-    }
-    let second = apart(&line[from..last], room);
-    if !second.accepted {
-        return Compared::Unreadable;
-    }
-    let a = first.reel;
-    let b = second.reel;
-    if a.same(b) {
-        return Compared::Yes;
-    }
-    Compared::No
-}
-
-pub(crate) fn put_compared(out: &mut [u8], compared: Compared) -> usize
-    ensures { λ r. ⌜ r ≤ length (now (out .exit)) ⌝ }
+// Of what two reads hand back: 1 for reels that are the same, 0 for others, where both are accepted.
+fn compared(a: Handed, b: Handed) -> Given
+    requires { ⌜ (Held (a .reel)) × (Held (b .reel)) ⌝ }
+    ensures { λ r. ⌜ Within r 0 ⌝ }
 {
-    match compared {
-        Compared::Unreadable => put_line(out, b"unreadable\n"),
-        Compared::Yes => put_line(out, b"yes\n"),
-        Compared::No => put_line(out, b"no\n"),
+    let left = a.reel;
+    let right = b.reel;
+    if !accepted(a) {
+        return UNREADABLE;
     }
+    Given {
+        readable: accepted(b),
+        number: left.same(right) as u32,
+        second: 0,
+        list: [0; 9],
+        listed: 0,
+        bytes: 0,
+    }
+}
+
+pub(crate) fn same(count: usize, first: &[u8], second: &[u8], room: &mut [u8]) -> Given
+    ensures { λ r. ⌜ Within r 0 ⌝ }
+{
+    if count != 2 {
+        return UNREADABLE;
+    }
+    let a = loaded(first, room);
+    let b = loaded(second, room);
+    compared(a, b)
 }

@@ -1,75 +1,77 @@
-// What a line is answered: the reel, and the text of the answer in a lent output.
+// The text of an answer, in a lent output; none where the output has no room for it.
 ghost use Prim.Native.Nat.{_≤_};
 ghost use lib.ListN.{length};
+ghost use Rattle.replay_lines.specs.Machine.{Short};
+use crate::said::Said;
+use crate::said::letter;
+use crate::said::said_to;
 use reel::Answer;
-use reel::Reel;
-use text::put_bytes;
-use text::put_decimal;
+use replay_fields::Word;
 use text::put_hex;
 use text::put_signed;
 
-pub struct Told {
-    pub reel: Reel,
-    // of the answer, with its line feed
-    pub length: usize,
+// The first letters of a word.
+fn put_word(out: &mut [u8], word: usize, letters: usize)
+    requires { ⌜ (word ≤ 8) × (letters ≤ 10) × (10 ≤ length (now out)) ⌝ }
+{
+    let start = word * 10;
+    let mut i = 0;
+    while i < letters {
+        out[i] = letter(start + i);
+        i += 1;
+    }
 }
 
-// `accepted`, `wrote N` or `refused N`.
-fn put_outcome(out: &mut [u8], answer: Answer) -> usize
-    requires { ⌜ 32 ≤ length (now out) ⌝ }
+// The word, and the number if there is one.
+fn put_said(out: &mut [u8], said: Said) -> usize
+    requires { ⌜ (40 ≤ length (now out)) × (Short said) ⌝ }
     ensures { λ r. ⌜ r ≤ 30 ⌝ }
-    ensures { λ _. ⌜ 32 ≤ length (now (out .exit)) ⌝ }
+    ensures { λ _. ⌜ 40 ≤ length (now (out .exit)) ⌝ }
 {
-    match answer {
-        Answer::Accepted => put_bytes(out, 0, b"accepted"),
-        Answer::Number(n) => {
-            let at = put_bytes(out, 0, b"wrote ");
-            put_signed(out, at, n)
-        }
-        Answer::Refused(cause) => {
-            let at = put_bytes(out, 0, b"refused ");
-            put_decimal(out, at, cause.number() as u64)
-        }
+    let letters = said.letters;
+    put_word(out, said.word, letters);
+    if said.numbered {
+        return put_signed(out, letters, said.number);
     }
+    letters
 }
 
-// A line; no bytes where the output has no room for it.
-pub(crate) fn put_line(out: &mut [u8], line: &[u8]) -> usize
+// After the answer of a write all the lent bytes as they then are, and the end of the line.
+fn put_lent(out: &mut [u8], at: usize, lent: &[u8]) -> usize
+    requires { ⌜ (at ≤ 30) × (40 ≤ length (now out)) ⌝ }
     ensures { λ r. ⌜ r ≤ length (now (out .exit)) ⌝ }
 {
-    if out.len() < line.len() {
+    if (out.len() - 40) / 2 < lent.len() {
         return 0;
     }
-    put_bytes(out, 0, line)
-}
-
-// The answer of a call that is lent no output.
-pub(crate) fn put_answer(out: &mut [u8], answer: Answer) -> usize
-    ensures { λ r. ⌜ r ≤ length (now (out .exit)) ⌝ }
-{
-    if out.len() < 32 {
-        return 0;
+    out[at] = b' ';
+    if lent.len() == 0 {
+        out[at + 1] = b'-';
+        out[at + 2] = b'\n';
+        return at + 3;
     }
-    let at = put_outcome(out, answer);
-    put_bytes(out, at, b"\n")
+    let end = put_hex(out, at + 1, lent);
+    out[end] = b'\n';
+    end + 1
 }
 
-// The answer of a write, with all the lent bytes as they then are.
-pub(crate) fn put_written(out: &mut [u8], answer: Answer, lent: &[u8]) -> usize
+// A line.
+pub(crate) fn put_told(
+    out: &mut [u8],
+    word: Word,
+    number: u32,
+    answer: Answer,
+    lent: &[u8],
+) -> usize
     ensures { λ r. ⌜ r ≤ length (now (out .exit)) ⌝ }
 {
     if out.len() < 40 {
         return 0;
     }
-    if (out.len() - 40) / 2 < lent.len() {
-        return 0;
+    let at = put_said(out, said_to(word, number, answer));
+    if let Word::Write = word {
+        return put_lent(out, at, lent);
     }
-    let mut at = put_outcome(out, answer);
-    at = put_bytes(out, at, b" ");
-    if lent.len() == 0 {
-        at = put_bytes(out, at, b"-");
-    } else {
-        at = put_hex(out, at, lent);
-    }
-    put_bytes(out, at, b"\n")
+    out[at] = b'\n';
+    at + 1
 }

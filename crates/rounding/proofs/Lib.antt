@@ -4,4 +4,3 @@ pub mod Fits
 pub mod Distance
 pub mod Taylor
 pub mod Integral
-pub mod KnownResults

@@ -6,4 +6,4 @@ pub mod HalfSum
 pub mod Value
 pub mod Trend
 pub mod Water
-pub mod KnownResults
+pub mod Taylor

@@ -35,9 +35,13 @@ p P = weight (P .h) (P .left)
 abbrev pub q : Piece → ℕ → ℤ
 q P = weight (P .h) (P .right)
 
--- D = 256 × h: the piece's length in 1/256 step, the unit of query positions and of r
+-- a query position is in 1/256 step, and so is r
+abbrev pub positionUnit : ℕ
+positionUnit = 256
+
+-- D = 256 × h: the piece's length in that unit
 abbrev pub D : Piece → ℕ
-D P = 256 * P .h
+D P = positionUnit * P .h
 
 -- the exact blend of the piece
 unfoldable pub exactBlend : Piece → Polynomial

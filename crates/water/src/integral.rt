@@ -3,9 +3,9 @@ ghost use mathlib.Core.Path.{_≡_};
 ghost use Rattle.rounding.specs.Piece.{piece};
 ghost use Rattle.rounding.specs.Size.{Admitted};
 ghost use Rattle.rounding.specs.Water.{total as Water·total};
-use half_sum::right_weights;
 use half_sum::weighted;
-use half_sum::weights;
+use knot_weights::right_weights;
+use knot_weights::weights;
 
 // The integral weights: for each pair of grades m and n, from 0 to 7, a row of c_0 to c_7, which is 0 above m.
 const INTEGRAL_WEIGHTS: [u32; 512] = [

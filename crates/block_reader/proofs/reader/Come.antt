@@ -12,9 +12,10 @@ use lib.Seq.{take-suc, take-suc-set, getD-drop, drop-drop, append-snoc}
 use Rattle.rounding.specs.Limits.{knotsMax, gradeMax}
 use Rattle.knot.specs.Scan.{Scan, scanOf}
 use Rattle.knot.specs.RefusalTable.{first, sizeCauses}
-use Rattle.knot.specs.Machine.{Numbers, scan, Graded, knotIn, scansIn, neighbour}
+use Rattle.knot.specs.Machine.{Numbers, scan, Graded, knotIn, scansIn}
+use Rattle.following.specs.Machine.{neighbour}
 use Rattle.knot.specs.declared.held.Knot.{Knot}
-use Rattle.knot.specs.declared.following.Neighbour.{Neighbour}
+use Rattle.following.specs.declared.tests.Neighbour.{Neighbour}
 use Rattle.knot.proofs.Causes.{first-found, first-later}
 use Rattle.knot.proofs.Lists.{map-append-one, scans-stored, graded-stored}
 use Rattle.word.specs.Fields.{kind, position, grade, payload}

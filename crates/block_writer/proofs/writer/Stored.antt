@@ -9,7 +9,7 @@ use lib.IntN.{ℤ, pos}
 use lib.ListN.{length, take, drop, getD, length-append, length-map, drop-of-length-le}
 use lib.Seq.{sets, sets-eq, length-sets, drop-cons, getD-take}
 use Rattle.knot.specs.Scan.{Scan, at, grade}
-use Rattle.knot.specs.Machine.{scan, Graded, knotIn, scansIn}
+use Rattle.knot.specs.Machine.{scan, Graded, Filled, knotIn, scansIn}
 use Rattle.knot.specs.declared.held.Knot.{Knot}
 use Rattle.integer.proofs.Stores.{sets-sets}
 use Rattle.knot.proofs.Lists.{length-scans, at-scans, list-length}
@@ -17,11 +17,10 @@ use Rattle.word.specs.Fields.{headerWord, knotWord, coefficientWord, endWord}
 use Rattle.word.specs.Bytes.{bytesOf, bytes}
 use Rattle.word.proofs.Bytes.{bytes-append, length-bytes}
 use Rattle.block.specs.Block.{block, blockWords, editionNow, knotsWords, openWords, scanWords, written}
-use Rattle.block_writer.specs.Machine.{Writable}
 
 -- ---- the knots still to come
 
-module _ (knots : List Knot) (n : ℕ) (can : Writable knots n) where
+module _ (knots : List Knot) (n : ℕ) (can : Filled knots n) where
   room : n ≤ length knots
   room = omega (arith, can .room, can .count)
 
@@ -48,7 +47,7 @@ none-counted knots n b = record { within = omega arith; place = omega arith; lef
 scan-words : (k : Knot) → Graded k → length (scanWords (scan k)) ≡ k .grade + 2
 scan-words k g = omega (arith, length-map (take (k .grade + 1) (k .coefficients)) coefficientWord, list-length k g)
 
-module _ (knots : List Knot) (n : ℕ) (can : Writable knots n) (b k i : ℕ) (come : Counted knots n b k i) where
+module _ (knots : List Knot) (n : ℕ) (can : Filled knots n) (b k i : ℕ) (come : Counted knots n b k i) where
   pub one-counted : k < n → Counted knots n b (k + 1) (i + (knotIn knots k .grade + 2))
   one-counted h =
       let g = can .graded k h in
@@ -134,7 +133,7 @@ module _ (before : List ℕ) (knots : List Knot) (n : ℕ) where
   pub no-knot : Knots before knots n before 1 0
   no-knot = record { counted = none-counted knots n 1; left = all-left before 1 (knotsWords (scansIn n knots)) }
 
-  module _ (can : Writable knots n) (out : List ℕ) (i k : ℕ) (come : Knots before knots n out i k) where
+  module _ (can : Filled knots n) (out : List ℕ) (i k : ℕ) (come : Knots before knots n out i k) where
     pub one-knot : k < n → (out′ : List ℕ) (i′ : ℕ) → i′ ≡ i + (knotIn knots k .grade + 2) → out′ ≡ sets out (4 * i) (bytes (scanWords (scan (knotIn knots k)))) → Knots before knots n out′ i′ (k + 1)
     one-knot h out′ i′ next stored =
         let words = scanWords (scan (knotIn knots k)) in

@@ -14,7 +14,8 @@ use lib.ListN.{length, getD, drop, set}
 use Rattle.rounding.specs.Limits.{knotsMax, gradeMax, gapMax}
 use Rattle.knot.specs.Scan.{gap, Scan}
 use Rattle.knot.specs.RefusalTable.{first}
-use Rattle.knot.specs.Machine.{scan, neighbour, refusal, Numbers}
+use Rattle.knot.specs.Machine.{scan, refusal, Numbers}
+use Rattle.following.specs.Machine.{neighbour}
 use Rattle.knot.specs.declared.held.Knot.{Knot}
 use Rattle.knot.specs.declared.table.Refusal.the-variants as Refusals
 use Rattle.knot.proofs.Causes.{quiet, placed}

@@ -3,7 +3,7 @@ use borrow.Author.Needs.{needs}
 use borrow.Author.Tests.{eq-eqb, ne-eqb}
 use mathlib.Core.Path.{_≡_, refl, sym, _∙_, ap}
 use Rattle.knot.specs.RefusalTable.{first, positionCauses}
-use Rattle.knot.specs.Machine.{neighbour}
+use Rattle.following.specs.Machine.{neighbour}
 use Rattle.word.specs.Fields.{kind, knotSpare, position}
 use Rattle.block.specs.Reading.{knotCauses}
 use Rattle.block_reader.proofs.tests.knot_test.Statement.{statement}

@@ -8,13 +8,12 @@ use mir.Syntax.{w64}
 use mir.Val.{SFits, toZ, ofZ}
 use mir.Facts.{toZ-ofZ}
 use Rattle.integer.specs.Within.{Within}
-use Rattle.integer.proofs.Within.{within-natural, within-mul, within-fits}
 use Rattle.hermite.specs.HalfSum.{valueUnit}
 use Rattle.hermite.specs.Polynomial.{coefficient}
 use Rattle.rounding.specs.HalfSum.{descended}
 use Rattle.rounding.specs.Scaling.{scaled}
 use Rattle.rounding.proofs.Bounds.{descended-fits}
-use Rattle.half_sum.proofs.Machine.{result-is}
+use Rattle.integer.proofs.Within.{within-natural, within-mul, within-fits, result-is}
 use Rattle.half_sum.proofs.steps.descended.Statement.{statement}
 use Rattle.half_sum.proofs.steps.descended.Tie as tie
 

@@ -11,7 +11,7 @@ use Rattle.rounding.specs.Scaling.{scaledTimes}
 use Rattle.rounding.specs.Limits.{sizeMax}
 use Rattle.rounding.proofs.Agree.{descended-agree}
 use Rattle.rounding.proofs.Bounds.{g-within, descended-fits}
-use Rattle.half_sum.proofs.Machine.{result-is}
+use Rattle.integer.proofs.Within.{result-is}
 use Rattle.half_sum.proofs.steps.half_sum.Statement.{statement}
 use Rattle.half_sum.proofs.steps.half_sum.Tie as tie
 

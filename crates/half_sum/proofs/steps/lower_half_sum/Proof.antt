@@ -8,8 +8,8 @@ use Rattle.hermite.specs.Polynomial.{coefficient}
 use Rattle.hermite.specs.Slope.{primed}
 use Rattle.rounding.specs.HalfSum.{halfSum, lowerHalfSum}
 use Rattle.rounding.proofs.Agree.{halfSum-agree}
-use Rattle.half_sum.proofs.Lists.{primed-weights}
-use Rattle.half_sum.proofs.Machine.{result-is}
+use Rattle.knot_weights.proofs.Lists.{primed-weights}
+use Rattle.integer.proofs.Within.{result-is}
 use Rattle.half_sum.proofs.steps.lower_half_sum.Statement.{statement}
 use Rattle.half_sum.proofs.steps.lower_half_sum.Tie as tie
 

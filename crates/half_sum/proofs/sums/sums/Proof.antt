@@ -7,10 +7,10 @@ use lib.ListN.{length-take, length-drop}
 use Rattle.hermite.specs.HalfSum.{g as HalfSum·g}
 use Rattle.hermite.specs.Binomial.{binomial}
 use Rattle.hermite.specs.Polynomial.{coefficient}
-use Rattle.half_sum.proofs.Lists.{Filled, filled-zeros, filled-more, filled-lists}
+use Rattle.knot_weights.proofs.Lists.{Filled, filled-zeros, filled-more, filled-lists}
 use Rattle.half_sum.proofs.Rows.{g-by-rows}
 use Rattle.half_sum.proofs.Tables.{part-entries}
-use Rattle.half_sum.proofs.Machine.{result-is}
+use Rattle.integer.proofs.Within.{result-is}
 use Rattle.half_sum.proofs.sums.sums.Statement.{statement}
 use Rattle.half_sum.proofs.sums.sums.Tie as tie
 

@@ -9,7 +9,6 @@ use mir.Syntax.{w64}
 use mir.Val.{SFits, toZ, ofZ}
 use mir.Facts.{toZ-ofZ}
 use Rattle.integer.specs.Within.{Within}
-use Rattle.integer.proofs.Within.{within-fits}
 use Rattle.hermite.specs.Polynomial.{coefficient}
 use Rattle.hermite.specs.Slope.{K}
 use Rattle.rounding.specs.HalfSum.{lowerHalfSum}
@@ -19,8 +18,8 @@ use Rattle.rounding.specs.Trend.{Y1, Y2, Y3, scaledK, trend}
 use Rattle.rounding.proofs.Agree.{lowerHalfSum-agree, sumK-agree}
 use Rattle.rounding.proofs.Fits.{K-within, difference-within, slope-within}
 use Rattle.rounding.proofs.Bounds.{sized-within, right-sized}
-use Rattle.half_sum.proofs.Lists.{listed-weights}
-use Rattle.half_sum.proofs.Machine.{result-is}
+use Rattle.knot_weights.proofs.Lists.{listed-weights}
+use Rattle.integer.proofs.Within.{within-fits, result-is}
 use Rattle.piece.proofs.curve.trend.Statement.{statement}
 use Rattle.piece.proofs.curve.trend.Tie as tie
 

@@ -8,7 +8,6 @@ use lib.IntN.{_+ℤ_}
 use mir.Syntax.{w64}
 use mir.Val.{SFits}
 use mir.Facts.{toZ-ofZ}
-use Rattle.integer.proofs.Within.{within-fits}
 use Rattle.hermite.specs.Blend.{rightWeights}
 use Rattle.hermite.specs.Polynomial.{coefficient}
 use Rattle.rounding.specs.HalfSum.{halfSum}
@@ -17,8 +16,8 @@ use Rattle.rounding.specs.Value.{value}
 use Rattle.rounding.proofs.Agree.{halfSum-agree}
 use Rattle.rounding.proofs.Fits.{value-within}
 use Rattle.rounding.proofs.Bounds.{sized-within, right-sized}
-use Rattle.half_sum.proofs.Lists.{more-weights, listed-weights}
-use Rattle.half_sum.proofs.Machine.{result-is}
+use Rattle.knot_weights.proofs.Lists.{more-weights, listed-weights}
+use Rattle.integer.proofs.Within.{within-fits, result-is}
 use Rattle.piece.proofs.curve.value.Statement.{statement}
 use Rattle.piece.proofs.curve.value.Tie as tie
 

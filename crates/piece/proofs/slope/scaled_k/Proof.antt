@@ -9,12 +9,11 @@ use mir.Syntax.{w64}
 use mir.Val.{SFits, toZ, ofZ}
 use mir.Facts.{toZ-ofZ}
 use Rattle.integer.specs.Within.{Within}
-use Rattle.integer.proofs.Within.{within-natural, within-more, within-mul, within-fits}
 use Rattle.hermite.specs.HalfSum.{valueUnit}
 use Rattle.rounding.specs.Scaling.{scaledTimes}
 use Rattle.rounding.specs.Trend.{scaledK}
 use Rattle.rounding.proofs.Bounds.{times-within}
-use Rattle.half_sum.proofs.Machine.{result-is}
+use Rattle.integer.proofs.Within.{within-natural, within-more, within-mul, within-fits, result-is}
 use Rattle.piece.proofs.slope.scaled_k.Statement.{statement}
 use Rattle.piece.proofs.slope.scaled_k.Tie as tie
 

@@ -9,16 +9,15 @@ use lib.ListN.{length-take, length-drop}
 use mir.Syntax.{w64}
 use mir.Val.{SFits, toZ, ofZ}
 use mir.Facts.{toZ-ofZ, toZ-pos}
-use Rattle.integer.proofs.Within.{within-fits}
 use Rattle.hermite.specs.Binomial.{binomial}
 use Rattle.hermite.specs.Polynomial.{coefficient}
 use Rattle.hermite.specs.Slope.{sumK}
 use Rattle.rounding.proofs.Bounds.{sumK-within}
-use Rattle.half_sum.proofs.Lists.{more-weights}
+use Rattle.knot_weights.proofs.Lists.{more-weights}
 use Rattle.piece.proofs.slope.Sums.{sumK-by-g}
 use Rattle.half_sum.proofs.Rows.{g-by-rows}
 use Rattle.half_sum.proofs.Tables.{part-entries}
-use Rattle.half_sum.proofs.Machine.{result-is}
+use Rattle.integer.proofs.Within.{within-fits, result-is}
 use Rattle.piece.proofs.slope.sum_k.Statement.{statement}
 use Rattle.piece.proofs.slope.sum_k.Tie as tie
 

@@ -1,4 +1,5 @@
 -- `piece_vectors::case::coefficients` meets its contract.
+use borrow.Author.Needs.{needs}
 use mathlib.Core.Path.{_≡_, refl}
 use Prim.Native.Nat.{_-_, _≤_}
 use native.Mathlib.Omega.{arith}
@@ -7,25 +8,22 @@ use Rattle.piece_vectors.proofs.case.coefficients.Statement.{statement}
 use Rattle.piece_vectors.proofs.case.coefficients.Tie as tie
 
 abbrev Inv-loop : tie.InvT-loop
-Inv-loop bytes at c₀ j₀ c j = (j ≤ 8) × (8 ≡ length c)
+Inv-loop bytes from c₀ j₀ c j = (j ≤ 8) × (8 ≡ length c)
 
 abbrev μ-loop : tie.MeasureT-loop
-μ-loop bytes at c₀ j₀ c j = 8 - j
+μ-loop bytes from c₀ j₀ c j = 8 - j
 
 loop-holds : tie.Need-loop-holds Inv-loop μ-loop
 loop-holds c = (omega arith, refl)
 
-mul-word : tie.Need-mul-word Inv-loop μ-loop
-mul-word c = omega arith
+add-load : tie.Need-add-load Inv-loop μ-loop
+add-load c = omega arith
 
-add-word : tie.Need-add-word Inv-loop μ-loop
-add-word c = omega arith
-
-word-requires : tie.Need-word-requires Inv-loop μ-loop
-word-requires c κs = omega arith
+load-requires : tie.Need-load-requires Inv-loop μ-loop
+load-requires c κs = search needs
 
 signed-requires : tie.Need-signed-requires Inv-loop μ-loop
-signed-requires c κs = c .word .ensures
+signed-requires c κs = search needs
 
 mul-c : tie.Need-mul-c Inv-loop μ-loop
 mul-c c = omega arith
@@ -52,9 +50,8 @@ coefficients-spec =
     Inv-loop
     μ-loop
     loop-holds
-    mul-word
-    add-word
-    word-requires
+    add-load
+    load-requires
     signed-requires
     mul-c
     array-set-from-c

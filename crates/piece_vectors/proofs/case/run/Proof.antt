@@ -5,17 +5,29 @@ use lib.ListN.{length-take}
 use Rattle.piece_vectors.proofs.case.run.Statement.{statement}
 use Rattle.piece_vectors.proofs.case.run.Tie as tie
 
-word-requires : tie.Need-word-requires
-word-requires c κs = search needs
+load-requires : tie.Need-load-requires
+load-requires c κs = search needs
 
-word-requires-2 : tie.Need-word-requires-2
-word-requires-2 c κs = search needs
+cast-h : tie.Need-cast-h
+cast-h c = search needs
 
-word-requires-3 : tie.Need-word-requires-3
-word-requires-3 c κs = search needs
+load-requires-2 : tie.Need-load-requires-2
+load-requires-2 c κs = search needs
 
-word-requires-4 : tie.Need-word-requires-4
-word-requires-4 c κs = search needs
+cast-left-count : tie.Need-cast-left-count
+cast-left-count c = search needs
+
+load-requires-3 : tie.Need-load-requires-3
+load-requires-3 c κs = search needs
+
+cast-right-count : tie.Need-cast-right-count
+cast-right-count c = search needs
+
+load-requires-4 : tie.Need-load-requires-4
+load-requires-4 c κs = search needs
+
+cast-r : tie.Need-cast-r
+cast-r c = search needs
 
 coefficients-requires : tie.Need-coefficients-requires
 coefficients-requires c κs = search needs
@@ -51,10 +63,14 @@ pub run-spec : {M : Type 1} → statement M
 run-spec =
     tie.close
     (tie.spec
-    word-requires
-    word-requires-2
-    word-requires-3
-    word-requires-4
+    load-requires
+    cast-h
+    load-requires-2
+    cast-left-count
+    load-requires-3
+    cast-right-count
+    load-requires-4
+    cast-r
     coefficients-requires
     coefficients-requires-2
     returns

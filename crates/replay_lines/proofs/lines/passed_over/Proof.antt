@@ -4,7 +4,7 @@ use borrow.Author.Tests.{eq-eqb, ne-eqb}
 use mathlib.Core.Path.{refl, sym}
 use native.Mathlib.Omega.{arith}
 use lib.ListN.{getD}
-use Rattle.replay_lines.proofs.Calls.{nothing, by-first}
+use Rattle.replay_lines.proofs.Naming.{nothing, by-first}
 use Rattle.replay_lines.proofs.lines.passed_over.Statement.{statement}
 use Rattle.replay_lines.proofs.lines.passed_over.Tie as tie
 

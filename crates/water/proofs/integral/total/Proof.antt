@@ -10,15 +10,14 @@ use mir.Syntax.{w64}
 use mir.Val.{SFits, toZ, ofZ}
 use mir.Facts.{toZ-ofZ, toZ-pos}
 use Rattle.integer.specs.Sum.{sum}
-use Rattle.integer.proofs.Within.{within-fits}
 use Rattle.hermite.specs.Blend.{rightWeights}
 use Rattle.hermite.specs.Water.{weightedSum, c as Water·c}
 use Rattle.rounding.specs.Piece.{Piece, piece, m, n, p, q}
 use Rattle.rounding.specs.Water.{total}
 use Rattle.rounding.proofs.Fits.{weightedSum-within, total-within}
 use Rattle.rounding.proofs.Bounds.{sized-within, right-sized}
-use Rattle.half_sum.proofs.Lists.{more-weights, listed-weights}
-use Rattle.half_sum.proofs.Machine.{result-is}
+use Rattle.knot_weights.proofs.Lists.{more-weights, listed-weights}
+use Rattle.integer.proofs.Within.{within-fits, result-is}
 use Rattle.half_sum.proofs.Tables.{part-entries}
 use Rattle.water.proofs.integral.Recurrence.{sums-by-table}
 use Rattle.water.proofs.integral.total.Statement.{statement}

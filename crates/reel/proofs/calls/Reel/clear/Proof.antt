@@ -10,7 +10,7 @@ use Rattle.reel.proofs.calls.Reel.clear.Tie as tie
 returns : tie.Need-returns
 returns c =
     let r = c .args .self in
-    accepts clear r _ (c .pre) refl refl refl refl (scans-of (r .knots) 0) (c .pre .room) (omega arith) (λ k h. absurd (omega arith))
+    accepts clear r _ (c .pre) refl refl refl refl (scans-of (r .knots) 0) (c .pre .filled .room) (omega arith) (λ k h. absurd (omega arith))
 
 pub clear-spec : {M : Type 1} → statement M
 clear-spec = tie.close (tie.spec returns)

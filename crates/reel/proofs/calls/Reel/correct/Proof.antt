@@ -1,65 +1,30 @@
--- `reel::calls::Reel::correct` meets its contract: a return for each cause, and one for the list with the knot corrected.
-use borrow.Author.Tests.{not-true, not-false}
-use mathlib.Core.Bool.{cond, not}
-use mathlib.Core.Option.{Option, none, some}
-use mathlib.Core.Path.{_≡_, refl, sym, _∙_, ap}
-use Prim.Native.Nat.{_+_}
-use native.Mathlib.Omega.{arith}
-use lib.Dec.{ltb}
-use lib.ListN.{length, length-set, set}
-use Rattle.knot.specs.Scan.{Scan, scanOf}
-use Rattle.knot.specs.SizeRule.{sizeRule}
-use Rattle.knot.specs.RefusalTable.{first, listCauses}
-use Rattle.knot.specs.Machine.{neighbour, refusal, scan}
-use Rattle.knot.specs.declared.table.Refusal.the-variants as Refusals
-use Rattle.knot.proofs.Causes.{quiet, listed}
-use Rattle.knot.proofs.Lists.{graded-stored}
-use Rattle.reel.specs.Calls.{correct, causes}
-use Rattle.reel.specs.Machine.{scans, knotAt}
-use Rattle.reel.proofs.Scans.{at-scans, before-is, after-is, gap-before, gap-after, scans-corrected}
-use Rattle.reel.proofs.calls.Causes.{no-knot, correct-list, correct-size}
-use Rattle.reel.proofs.calls.Promises.{refuses, accepts}
+-- `reel::calls::Reel::correct` meets its contract: what its tests refuse, or the list with the knot corrected.
 use borrow.Author.Needs.{needs}
+use mathlib.Core.Option.{none}
+use mathlib.Core.Path.{_≡_, refl, sym, _∙_, ap}
+use Prim.Native.Nat.{ℕ, _<_}
+use native.Mathlib.Omega.{arith}
+use lib.ListN.{length-set, set}
+use Rattle.knot.specs.RefusalTable.{first}
+use Rattle.knot.specs.Machine.{refusal, scan}
+use Rattle.knot.proofs.Lists.{graded-stored}
+use Rattle.call_tests.specs.Machine.{Finds}
+use Rattle.reel.specs.Calls.{correct, causes, corrected}
+use Rattle.reel.specs.Machine.{scans, knotAt}
+use Rattle.reel.proofs.Scans.{gap-before, gap-after, scans-corrected}
+use Rattle.reel.proofs.calls.Promises.{refuses, accepts}
+use Rattle.reel.proofs.calls.Tested.{correct-finds, correct-there}
 use Rattle.reel.proofs.calls.Reel.correct.Statement.{statement}
 use Rattle.reel.proofs.calls.Reel.correct.Tie as tie
 
--- ---- 9 and 3
-
-returns : tie.Need-returns
-returns c = let b = c .before in refuses _ (b .args .t1) Refusals.Index (b .pre) (no-knot (b .args .t1) (b .pre) (b .args .k) (b .args .coefficients .now) (c .if1 .taken))
-
-list-test-requires : tie.Need-list-test-requires
-list-test-requires c κs = search needs
-
-enum-known-cause : tie.Need-enum-known-cause
-enum-known-cause c = search needs
-
-returns-2 : tie.Need-returns-2
-returns-2 c =
-    let l = c .before .before .before in
-    let b = l .before .before in
-    refuses _ (b .args .t1) (c .before .cause .given .0 .0) (b .pre)
-    (correct-list (b .args .t1) (b .pre) (b .args .k) (b .args .coefficients .now) (l .before .if1 .left) (sym (l .list-test .ensures) ∙ ap refusal (c .before .cause .given .1)))
-
-enum-told : tie.Need-enum-told
-enum-told c = search needs
-
-list-passed : (c : tie.After-enum-told) → first (listCauses (length (c .before .before .before .before .args .coefficients .now))) ≡ none
-list-passed c = sym (c .before .before .list-test .ensures) ∙ ap refusal (c .enum-told .given .1)
-
--- ---- the knot with other coefficients, and its neighbours
+inside-requires : tie.Need-inside-requires
+inside-requires c κs = search needs
 
 mul-old : tie.Need-mul-old
 mul-old c = search needs
 
 element-copy-out-old : tie.Need-element-copy-out-old
 element-copy-out-old c = search needs
-
-of-requires : tie.Need-of-requires
-of-requires c κs =
-    let e = c .before in
-    let C = e .before .before .before .before .args .coefficients .now in
-    listed C (quiet (listCauses (length C)) (list-passed e) .0)
 
 before-requires : tie.Need-before-requires
 before-requires c κs = search needs
@@ -73,8 +38,8 @@ element-copy-out-previous c = search needs
 add-inside : tie.Need-add-inside
 add-inside c = search needs
 
-inside-requires : tie.Need-inside-requires
-inside-requires c κs = search needs
+inside-requires-2 : tie.Need-inside-requires-2
+inside-requires-2 c κs = search needs
 
 mul-following : tie.Need-mul-following
 mul-following c = search needs
@@ -82,47 +47,56 @@ mul-following c = search needs
 element-copy-out-following : tie.Need-element-copy-out-following
 element-copy-out-following c = search needs
 
-add-if2 : tie.Need-add-if2
-add-if2 c = search needs
-
+-- where the function starts, and the places of the three knots
 abbrev start : tie.After-following → tie.Start
-start c = c .before .before .before .before .before .before .before .before .before .before
+start f = f .before .before .before .before .before .before
 
--- the knots beside knot k, as the test gets them
-abbrev beside-left : tie.After-following → Option Scan
-beside-left c = let b = start c in neighbour (record { there = ltb 0 (b .args .k); knot = knotAt (b .args .t1) (c .before .before .before .before2 .result) })
+module _ (f : tie.After-following) where
+  abbrev at-old : ℕ
+  at-old = f .before .before .before .before .before .inside .result
 
-abbrev beside-right : tie.After-following → Option Scan
-beside-right c = let b = start c in neighbour (record { there = ltb (b .args .k + 1) (b .args .t1 .count); knot = knotAt (b .args .t1) (c .before .inside .result) })
+  here : start f .args .k < start f .args .t1 .count → at-old ≡ start f .args .k
+  here h = omega (arith, f .before .before .before .before .before .inside .ensures, h, start f .pre .filled .count)
 
-module _ (c : tie.After-following) where
-  position-is : let b = start c in c .before .before .before .before .of .result .position ≡ knotAt (b .args .t1) (b .args .k) .position
-  position-is = ap (λ s. s .position) (c .before .before .before .before .of .ensures .is)
-
-size-rule-requires : tie.Need-size-rule-requires
-size-rule-requires c κs =
-    let b = start c in (
-      c .before .before .before .before .of .ensures .graded,
-      gap-before (b .args .t1) (b .pre) (b .args .k) _ _ (c .before .before .before .before2 .ensures) (omega arith) (position-is c),
-      gap-after (b .args .t1) (b .pre) (b .args .k) _ (scan (c .before .before .before .before .of .result)) (c .before .inside .ensures) (position-is c),
+correct-test-requires : tie.Need-correct-test-requires
+correct-test-requires c κs h =
+    let b = start c in
+    let r = b .args .t1 in
+    let e = here c h in (
+      gap-before r (b .pre) (b .args .k) _ _ (omega (arith, c .before .before .before .before2 .ensures, e)) h (ap (λ n. knotAt r n .position) e),
+      gap-after r (b .pre) (b .args .k) _ (scan (knotAt r (at-old c))) (omega (arith, c .before .inside2 .ensures, e)) (ap (λ n. knotAt r n .position) e),
     )
 
--- the size rule says the rest
-sizes : (c : tie.After-size-rule) → let b = start (c .before) in
-    first (causes (correct (b .args .k) (b .args .coefficients .now)) (scans (b .args .t1))) ≡ cond (not (c .size-rule .result)) (some 6) none
-sizes c =
-    let f = c .before in
+-- the tests, with the knots beside knot k, find the call's causes
+finds : (t : tie.After-correct-test) → let b = start (t .before) in
+    Finds (t .correct-test .result) (causes (correct (b .args .k) (b .args .coefficients .now)) (scans (b .args .t1))) (corrected (scans (b .args .t1)) (b .args .k) (b .args .coefficients .now))
+finds t =
+    let f = t .before in
     let b = start f in
-    correct-size (b .args .t1) (b .pre) (b .args .k) (b .args .coefficients .now) (f .before .before .before .before .before .before .before .before .before .if1 .left)
-    (list-passed (f .before .before .before .before .before .before)) _ _
-    (before-is (b .args .t1) (b .pre) (b .args .k) _ (f .before .before .before .before2 .ensures) (omega arith))
-    (after-is (b .args .t1) (b .pre) (b .args .k) _ (f .before .inside .ensures)) ∙
-    ap (λ kept. cond (not kept) (some 6) none) (ap (λ s. sizeRule (beside-left f) s (beside-right f)) (sym (f .before .before .before .before .of .ensures .is)) ∙ sym (c .size-rule .ensures))
+    correct-finds (b .args .t1) (b .pre) (b .args .k) _ _ _ (b .args .coefficients .now) _ (f .before .before .before .before .before .inside .ensures) (f .before .before .before .before2 .ensures) (f .before .inside2 .ensures) (t .correct-test .ensures)
 
-returns-3 : tie.Need-returns-3
-returns-3 c =
-    let f = c .before .before in
-    refuses _ (start f .args .t1) Refusals.Size (start f .pre) (rw (not-true (c .before .size-rule .result) (c .if2 .taken)) at (sizes (c .before)))
+enum-known-verdict : tie.Need-enum-known-verdict
+enum-known-verdict c = search needs
+
+refused-requires : tie.Need-refused-requires
+refused-requires c κs = search needs
+
+returns : tie.Need-returns
+returns c =
+    let v = c .before .before in
+    let t = v .before .before in
+    let b = start (t .before) in
+    refuses _ (b .args .t1) (v .verdict .given .0 .0) (c .refused .result) (b .pre) (c .refused .ensures) (sym (finds t .verdict) ∙ ap refusal (v .verdict .given .1))
+
+enum-told : tie.Need-enum-told
+enum-told c = search needs
+
+module _ (c : tie.After-enum-told) where
+  passed : let b = start (c .before .before .before) in first (causes (correct (b .args .k) (b .args .coefficients .now)) (scans (b .args .t1))) ≡ none
+  passed = sym (finds (c .before .before) .verdict) ∙ ap refusal (c .enum-told .given .1)
+
+  there : let b = start (c .before .before .before) in b .args .k < b .args .t1 .count
+  there = let b = start (c .before .before .before) in correct-there (b .args .t1) (b .pre) (b .args .k) (b .args .coefficients .now) passed
 
 mul-new : tie.Need-mul-new
 mul-new c = search needs
@@ -130,39 +104,39 @@ mul-new c = search needs
 element-set-from-new : tie.Need-element-set-from-new
 element-set-from-new c = search needs
 
-returns-4 : tie.Need-returns-4
-returns-4 c =
-    let f = c .before .before in
-    let b = start f in
-    accepts _ (b .args .t1) _ (b .pre) (rw (not-false (c .before .size-rule .result) (c .if2 .left)) at (sizes (c .before))) refl refl refl
-    (scans-corrected (b .args .t1) (b .pre) (b .args .k) (f .before .before .before .before .of .result) (omega arith) ∙
-    ap (λ s. set (scans (b .args .t1)) (b .args .k) s)
-    (f .before .before .before .before .of .ensures .is ∙ ap (λ s. scanOf (s .position) (b .args .coefficients .now)) (sym (at-scans (b .args .t1) (b .pre) (b .args .k) (omega arith)))))
-    (length-set (b .args .t1 .knots) (b .args .k) _ ∙ b .pre .room) (b .pre .count)
-    (graded-stored (b .args .t1 .knots) (b .args .k) (b .args .t1 .count) (f .before .before .before .before .of .result) (omega (arith, b .pre .room, b .pre .count)) (f .before .before .before .before .of .ensures .graded) (λ j h e. b .pre .graded j h))
+returns-2 : tie.Need-returns-2
+returns-2 c =
+    let e = c .before in
+    let t = e .before .before in
+    let b = start (t .before) in
+    let r = b .args .t1 in
+    let k = b .args .k in
+    let new = finds t .knot (passed e) in
+    rw (here (t .before) (there e))
+    (accepts _ r _ (b .pre) (passed e) refl refl refl
+    (scans-corrected r (b .pre) k (t .correct-test .result .knot) (there e) ∙ ap (λ s. set (scans r) k s) (new .is))
+    (length-set (r .knots) k _ ∙ b .pre .filled .room) (b .pre .filled .count)
+    (graded-stored (r .knots) k (r .count) (t .correct-test .result .knot) (omega (arith, there e, b .pre .filled .room, b .pre .filled .count)) (new .graded) (λ j h d. b .pre .filled .graded j h)))
 
 pub correct-spec : {M : Type 1} → statement M
 correct-spec =
     tie.close
     (tie.spec
-    returns
-    list-test-requires
-    enum-known-cause
-    returns-2
-    enum-told
+    inside-requires
     mul-old
     element-copy-out-old
-    of-requires
     before-requires
     mul-previous
     element-copy-out-previous
     add-inside
-    inside-requires
+    inside-requires-2
     mul-following
     element-copy-out-following
-    add-if2
-    size-rule-requires
-    returns-3
+    correct-test-requires
+    enum-known-verdict
+    refused-requires
+    returns
+    enum-told
     mul-new
     element-set-from-new
-    returns-4)
+    returns-2)

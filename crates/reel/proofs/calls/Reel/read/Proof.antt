@@ -18,12 +18,16 @@ read-requires c κs = search needs
 numbered-requires : tie.Need-numbered-requires
 numbered-requires c κs = search needs
 
+refused-requires : tie.Need-refused-requires
+refused-requires c κs = search needs
+
 returns : tie.Need-returns
 returns c =
-    let n = c .before .before .read in
-    let b = c .before .before .before .before in
-    refuses (read (b .args .bytes .now)) (b .args .self) (c .numbered .result) (b .pre)
-    (failed (n .result .refusal) (n .ensures .number) (c .before .if1 .taken) ∙ ap some (sym (c .numbered .ensures)))
+    let m = c .before in
+    let n = m .before .before .read in
+    let b = m .before .before .before .before in
+    refuses (read (b .args .bytes .now)) (b .args .self) (m .numbered .result) (c .refused .result) (b .pre) (c .refused .ensures)
+    (failed (n .result .refusal) (n .ensures .number) (m .before .if1 .taken) ∙ ap some (sym (m .numbered .ensures)))
 
 returns-2 : tie.Need-returns-2
 returns-2 c =
@@ -34,4 +38,4 @@ returns-2 c =
     (scans-of (n .result .knots) (n .result .count) ∙ n .ensures .scans quiet) (n .ensures .room) (n .ensures .count) (n .ensures .graded quiet)
 
 pub read-spec : {M : Type 1} → statement M
-read-spec = tie.close (tie.spec read-requires numbered-requires returns returns-2)
+read-spec = tie.close (tie.spec read-requires numbered-requires refused-requires returns returns-2)

@@ -58,7 +58,7 @@ element-copy-out-its c = search needs
 agree-requires : tie.Need-agree-requires Inv-loop μ-loop
 agree-requires c κs =
     let b = c .before .before .before .before .before in
-    (b .pre .0 .graded (c .before .before .before .loop .k) (omega arith), b .pre .1 .graded (c .before .before .before .loop .k) (omega arith))
+    (b .pre .0 .filled .graded (c .before .before .before .loop .k) (omega arith), b .pre .1 .filled .graded (c .before .before .before .loop .k) (omega arith))
 
 returns-2 : tie.Need-returns-2 Inv-loop μ-loop
 returns-2 c =

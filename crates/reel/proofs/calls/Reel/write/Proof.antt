@@ -25,19 +25,23 @@ use Rattle.reel.proofs.calls.Reel.write.Tie as tie
 length-requires : tie.Need-length-requires
 length-requires c κs = search needs
 
+refused-requires : tie.Need-refused-requires
+refused-requires c κs = search needs
+
 returns : tie.Need-returns
 returns c =
-    let b = c .before .before .before .before in
+    let e = c .before in
+    let b = e .before .before .before .before in
     let r = b .args .self in
     let size = length (block (scans r)) in
-    let short : length (b .args .out .now) < size = omega (arith, c .if1 .taken, c .before .length .ensures, ap (λ s. length (block s)) (sym (scans-of (r .knots) (r .count)))) in
-    refuses (write (b .args .out .now)) r Refusals.Output (b .pre) (rw (lt-ltb (length (b .args .out .now)) size short) refl)
+    let short : length (b .args .out .now) < size = omega (arith, e .if1 .taken, e .before .length .ensures, ap (λ s. length (block s)) (sym (scans-of (r .knots) (r .count)))) in
+    refuses (write (b .args .out .now)) r Refusals.Output (c .refused .result) (b .pre) (c .refused .ensures) (rw (lt-ltb (length (b .args .out .now)) size short) refl)
 
 write-requires : tie.Need-write-requires
 write-requires c κs = search needs
 
-cast-t13 : tie.Need-cast-t13
-cast-t13 c = search needs
+cast-t12 : tie.Need-cast-t12
+cast-t12 c = search needs
 
 same-length : tie.Need-same-length
 same-length c = search needs
@@ -70,4 +74,4 @@ returns-2 c =
     (toZ-pos w64 {n = n .result} (omega (arith, most, size)) ∙ ap pos size) (n .ensures .1 ∙ ap (λ s. written s (b .args .out .now)) are)
 
 pub write-spec : {M : Type 1} → statement M
-write-spec = tie.close (tie.spec length-requires returns write-requires cast-t13 same-length returns-2)
+write-spec = tie.close (tie.spec length-requires refused-requires returns write-requires cast-t12 same-length returns-2)

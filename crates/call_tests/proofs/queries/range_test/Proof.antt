@@ -1,0 +1,20 @@
+-- `call_tests::queries::range_test` meets its contract: a return for each way the two causes can fall.
+use borrow.Author.Tests.{lt-ltb, le-ltb, le-leb, lt-leb}
+use mathlib.Core.Path.{refl}
+use Rattle.call_tests.proofs.queries.range_test.Statement.{statement}
+use Rattle.call_tests.proofs.queries.range_test.Tie as tie
+
+returns : tie.Need-returns
+returns c = rw (lt-ltb _ _ (c .if1 .taken)) refl
+
+returns-2 : tie.Need-returns-2
+returns-2 c = rw (le-ltb _ _ (c .before .if1 .left), lt-ltb _ _ (c .if2 .taken)) refl
+
+returns-3 : tie.Need-returns-3
+returns-3 c = rw (le-ltb _ _ (c .before .before .if1 .left), le-ltb _ _ (c .before .if2 .left), le-leb _ _ (c .if3 .taken)) refl
+
+returns-4 : tie.Need-returns-4
+returns-4 c = rw (le-ltb _ _ (c .before .before .if1 .left), le-ltb _ _ (c .before .if2 .left), lt-leb _ _ (c .if3 .left)) refl
+
+pub range-test-spec : {M : Type 1} → statement M
+range-test-spec = tie.close (tie.spec returns returns-2 returns-3 returns-4)

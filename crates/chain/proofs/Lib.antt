@@ -1,0 +1,4 @@
+pub mod Pieces
+pub mod Knots
+pub mod Sums
+pub mod Distances

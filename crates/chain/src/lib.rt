@@ -1,0 +1,7 @@
+// The chain of pieces between the knots of a reel: which piece a position is in, and value, trend and total there.
+mod place;
+mod queries;
+
+pub use queries::total;
+pub use queries::trend;
+pub use queries::value;

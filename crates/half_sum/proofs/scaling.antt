@@ -1,3 +1,0 @@
--- What the proofs of `scaling` use.
-mod Parts
-mod Sides

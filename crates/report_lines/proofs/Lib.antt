@@ -1,0 +1,3 @@
+mod Opening
+mod Texts
+pub mod Numbers

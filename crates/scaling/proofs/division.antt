@@ -1,0 +1,3 @@
+-- What the proofs of `division` use.
+mod Parts
+mod Sides
