@@ -1,0 +1,119 @@
+"""The reel with its calls and queries, what a reel is, and the call same."""
+from document.block import block_of, knots_of
+from document.hold import hold
+from document.knot import GAP_MAX, GRADE_MAX, KNOTS_MAX, POSITION_MAX, Refused, keeps_size_rule, misplaced, oversized, too_far
+from document.piece import Piece, UNIT_OF_POSITION, hold_distances, hold_ends, hold_total, total, trend, value
+
+
+class Reel:
+    """Knots as pairs of a position and coefficients. Each call returns the number of its refusal, or 0; a refusal changes nothing.
+    A query returns the number of its refusal, or its answer in a list."""
+
+    def __init__(self, knots=()):
+        self.knots = list(knots)
+
+    def clear(self):
+        self.knots = []
+        return 0
+
+    def gaps_beside(self, k):
+        positions = [position for position, _ in self.knots]
+        gaps = [b - a for i, (a, b) in enumerate(zip(positions, positions[1:])) if k in (i, i + 1)]
+        return gaps or [1]
+
+    def append(self, position, coefficients):
+        if len(self.knots) + 1 > KNOTS_MAX:
+            return 2
+        if not 1 <= len(coefficients) <= GRADE_MAX + 1:
+            return 3
+        if misplaced(self.knots, position):
+            return 4
+        if too_far(self.knots, position):
+            return 5
+        if oversized(self.knots, position, coefficients):
+            return 6
+        self.knots.append((position, coefficients))
+        return 0
+
+    def correct(self, k, coefficients):
+        if k >= len(self.knots):
+            return 9
+        if not 1 <= len(coefficients) <= GRADE_MAX + 1:
+            return 3
+        if not keeps_size_rule(coefficients, self.gaps_beside(k)):
+            return 6
+        self.knots[k] = (self.knots[k][0], coefficients)
+        return 0
+
+    def read(self, block):
+        try:
+            self.knots = knots_of(block)
+        except Refused as refused:
+            return refused.args[0]
+        return 0
+
+    def write(self, room):
+        """Into the lent bytes `room`, whose first bytes become the block; those after them stay."""
+        block = block_of(self.knots)
+        if len(room) < len(block):
+            return 10
+        room[: len(block)] = block
+        return 0
+
+    def piece(self, k):
+        """From knot k to knot k+1."""
+        (a, left), (b, right) = self.knots[k : k + 2]
+        return Piece(b - a, left, right)
+
+    def place(self, x):
+        """The piece of a query position, and r in it: an inner knot belongs to the piece on its right, the last knot to the last piece."""
+        starts = [UNIT_OF_POSITION * position for position, _ in self.knots[:-1]]
+        k = max(k for k, start in enumerate(starts) if start <= x)
+        return self.piece(k), x - starts[k]
+
+    def asked(self, query, x):
+        """Value or trend at the query position x, with all that demand 3 says of it held."""
+        if len(self.knots) < 2:
+            return 8
+        if not UNIT_OF_POSITION * self.knots[0][0] <= x <= UNIT_OF_POSITION * self.knots[-1][0]:
+            return 7
+        piece, r = self.place(x)
+        hold_ends(piece)
+        hold_distances(piece, r)
+        return [query(piece, r)]
+
+    def value(self, x):
+        return self.asked(value, x)
+
+    def trend(self, x):
+        return self.asked(trend, x)
+
+    def total(self, i, j):
+        """Pieces i to j−1, each the exact integral of its blend."""
+        if len(self.knots) < 2:
+            return 8
+        if i > j or j >= len(self.knots):
+            return 9
+        added = [self.piece(k) for k in range(i, j)]
+        for piece in added:
+            hold_ends(piece)
+            hold_total(piece)
+        return [sum(map(total, added))]
+
+
+def hold_standing(knots):
+    """What a reel is ("The reel"), said of the whole list at once and not knot by knot as append tests it."""
+    hold(len(knots) <= KNOTS_MAX, len(knots), "knots")
+    positions = [position for position, _ in knots]
+    hold(all(0 <= position <= POSITION_MAX for position in positions), "positions", positions)
+    hold(all(1 <= b - a <= GAP_MAX for a, b in zip(positions, positions[1:])), "gaps", positions)
+    for k, (_, coefficients) in enumerate(knots):
+        hold(1 <= len(coefficients) <= GRADE_MAX + 1, "grade of", knots[k])
+        hold(keeps_size_rule(coefficients, Reel(knots).gaps_beside(k)), "size rule at", k, knots)
+    for k in range(len(knots) - 1):
+        hold_ends(Reel(knots).piece(k))
+
+
+def same(reel, other):
+    """Counts, positions and every C_0."""
+    return [(position, c[0]) for position, c in reel.knots] == [(position, c[0]) for position, c in other.knots]

@@ -1,0 +1,105 @@
+"""The replay program's lines: a script's bytes in, the answers out."""
+import re
+
+from document.block import block_of
+from document.reel import Reel, same
+from document.text import Unreadable, signed, unsigned, whole
+
+PASSED_OVER = (b"#", b"=", b"~")
+LENT = b"\xa5"
+LENT_MAX = 32_768
+SCRIPT_MAX = 1_048_576
+
+
+def bytes_of_hex(field):
+    if field == b"-":
+        return b""
+    if not re.fullmatch(rb"([0-9a-f][0-9a-f])+", field):
+        raise Unreadable
+    return bytes.fromhex(field.decode())
+
+
+def hex_of(data):
+    return data.hex() or "-"
+
+
+def line_for(name, *fields):
+    """A call's line; a field is a number, a tuple of them, or the bytes of a block."""
+    texts = [name]
+    for field in fields:
+        if isinstance(field, tuple):
+            texts += map(str, field)
+        else:
+            texts.append(hex_of(field) if isinstance(field, bytes) else str(field))
+    return " ".join(texts)
+
+
+def line_of(answer):
+    """A yes or no, a number in a list, or the number of a refusal, 0 for an accepted call."""
+    if isinstance(answer, bool):
+        return "yes" if answer else "no"
+    if isinstance(answer, list):
+        return str(answer[0])
+    return f"refused {answer}" if answer else "accepted"
+
+
+def answered(query, answer):
+    """A query's answer with the query's name, or its refusal."""
+    return f"{query} {answer[0]}" if isinstance(answer, list) else line_of(answer)
+
+
+def kind_of_answer(answer):
+    return " ".join(answer.split(" ")[: 2 if answer.startswith("refused") else 1])
+
+
+def accepted_reel(block):
+    """The reel of a block that read accepts."""
+    reel = Reel()
+    if reel.read(block):
+        raise Unreadable
+    return reel
+
+
+def written(reel, room):
+    number = reel.write(room)
+    return f"{line_of(number) if number else f'wrote {len(block_of(reel.knots))}'} {hex_of(room)}"
+
+
+def answer_to_call(line, reel):
+    match line.split(b" "):
+        case [b"clear"]:
+            return line_of(reel.clear())
+        case [b"append", position, *coefficients]:
+            return line_of(reel.append(unsigned(position), signed(coefficients)))
+        case [b"correct", k, *coefficients]:
+            return line_of(reel.correct(unsigned(k), signed(coefficients)))
+        case [b"read", block]:
+            return line_of(reel.read(bytes_of_hex(block)))
+        case [b"write", room]:
+            return written(reel, bytearray(LENT * whole(room, 0, LENT_MAX)))
+        case [b"value", x]:
+            return answered("value", reel.value(unsigned(x)))
+        case [b"trend", x]:
+            return answered("trend", reel.trend(unsigned(x)))
+        case [b"total", i, j]:
+            return answered("total", reel.total(unsigned(i), unsigned(j)))
+        case [b"same", block, other]:
+            return line_of(same(accepted_reel(bytes_of_hex(block)), accepted_reel(bytes_of_hex(other))))
+    raise Unreadable
+
+
+def answer_to(line, reel):
+    """The answer to one line, or None where it is passed over."""
+    if not line or line.startswith(PASSED_OVER):
+        return None
+    try:
+        return answer_to_call(line, reel)
+    except Unreadable:
+        return "unreadable"
+
+
+def answers_to(script):
+    """The answers to a whole script, on one reel that starts empty."""
+    reel = Reel()
+    answers = [answer_to(line, reel) for line in script.split(b"\n")]
+    return [answer for answer in answers if answer is not None]

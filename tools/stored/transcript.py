@@ -1,0 +1,96 @@
+"""The replay script as it grows: a transcript, each call with its answer after it."""
+from document.block import block_of, knots_of
+from document.hold import hold
+from document.reel import Reel, hold_standing
+from stored.replay_lines import LENT, answer_to, hex_of, line_for, line_of
+
+
+class Transcript:
+    """Calls on one reel that starts empty, each held against what is known of it before it is put down."""
+
+    def __init__(self):
+        self.reel, self.lines, self.answers = Reel(), [], []
+        self.round_trips, self.unseen = 0, 0
+
+    def passed_over(self, line):
+        hold(answer_to(line.encode(), self.reel) is None, "not passed over:", line)
+        self.lines.append(line)
+
+    def call(self, line, expected=None):
+        before = list(self.reel.knots)
+        answer = answer_to(line.encode(), self.reel)
+        hold(expected in (None, answer), line[:200], "answers", answer[:200], "and not", expected)
+        self.lines += [line, f"= {answer}"]
+        self.answers.append(answer)
+        hold(answer == "accepted" or self.reel.knots == before, "the reel changes at", line)
+        if answer == "accepted":
+            hold_standing(self.reel.knots)
+        self.hold_round_trips(line, answer)
+        if answer == "unreadable" or answer.startswith("refused"):
+            self.look_now_and_then()
+
+    def hold_round_trips(self, line, answer):
+        """read(write(reel)) is the reel, and write(read(block)) is the block, of every reel and block that is accepted."""
+        if answer == "accepted":
+            hold(knots_of(block_of(self.reel.knots)) == self.reel.knots, "read(write(reel)) after", line)
+            self.round_trips += 1
+        name, *blocks = line.split(" ")
+        if (name == "read" and answer == "accepted") or (name == "same" and answer in ("yes", "no")):
+            for block in map(bytes.fromhex, blocks):
+                hold(block_of(knots_of(block)) == block, "write(read(block)) of", line)
+                self.round_trips += 1
+
+    def look_now_and_then(self):
+        """After every fifth call that changes nothing, a write shows that nothing has changed."""
+        self.unseen += 1
+        length = len(block_of(self.reel.knots))
+        if self.unseen >= 5 and length <= 100:
+            self.unseen = 0
+            self.write(length + len(self.answers) % 3)
+
+    def expect(self, number, name, *fields):
+        """A call whose refusal, or 0, is known."""
+        self.call(line_for(name, *fields), line_of(number))
+
+    def unreadable(self, *lines):
+        for line in lines:
+            self.call(line, "unreadable")
+
+    def ask(self, *positions):
+        """Value and trend at these query positions."""
+        for x in positions:
+            self.call(line_for("value", x))
+            self.call(line_for("trend", x))
+
+    def expect_asked(self, number, *positions):
+        """Value and trend there, both refused with this number."""
+        for x in positions:
+            self.expect(number, "value", x)
+            self.expect(number, "trend", x)
+
+    def add_up(self, *ranges):
+        """The totals of these ranges i, j."""
+        for i, j in ranges:
+            self.call(line_for("total", i, j))
+
+    def expect_added(self, number, *ranges):
+        """The totals of these ranges, all refused with this number."""
+        for i, j in ranges:
+            self.expect(number, "total", i, j)
+
+    def write(self, room):
+        """Into that many lent bytes: the block and the lent bytes after it, or the lent bytes as they were."""
+        block = block_of(self.reel.knots)
+        if len(block) <= room:
+            expected = f"wrote {len(block)} {hex_of(block + LENT * (room - len(block)))}"
+        else:
+            expected = f"refused 10 {hex_of(LENT * room)}"
+        self.call(line_for("write", room), expected)
+
+    def hold_knots(self, *knots):
+        """From here on the reel has these knots."""
+        self.expect(0, "read", block_of(knots))
+
+    def text(self):
+        """The last line is a call, without its answer and without a line feed."""
+        return "\n".join(self.lines[:-1]).encode()
