@@ -1,5 +1,0 @@
-pub mod Fields
-pub mod Numbers
-pub mod Hex
-pub mod Words
-pub mod Machine

@@ -1,4 +1,0 @@
-pub mod Finding
-pub mod Calls
-pub mod Naming
-pub mod Telling
