@@ -8,7 +8,6 @@ themselves are held against the document's known results here, and against the e
 files that `vectors` makes. The document stands in document/, what the stored files are made of in stored/.
 
   exact.py vectors  make the stored input and output of crates/piece_vectors again
-  exact.py runs     make the stored output of crates/reel_runs again
   exact.py replay   make the stored input and output of crates/replay again
   exact.py reports  make the stored input and output of crates/report and crates/report_runs again
   exact.py pack     the text of a reel to its block, standard input to standard output; a line of the text
@@ -16,7 +15,8 @@ files that `vectors` makes. The document stands in document/, what the stored fi
   exact.py unpack   a block to its text
   exact.py check    hold all entries of "Scans with known results", the integral weights of source document
                     001, and a sweep over all grades and gaps; then the worked block, its report and its text,
-                    the stored reports, and the replay script with both round trips of every block it meets
+                    the stored reports, and the replay script, with the reel's round trip after every call and that
+                    of every block it accepts
 """
 import sys
 
@@ -33,9 +33,8 @@ from document.piece import case
 from document.report import report_of
 from document.sweep import hold_ends_of_bounds, hold_integral_weights, hold_sweep
 from document.text import Unreadable, knots_of_text, text_of
-from stored.replay_lines import kind_of_answer, line_of
+from stored.replay_lines import kind_of_answer
 from stored.reports import stored_reports
-from stored.runs import run_calls
 from stored.script import transcript
 from stored.vectors import stored_cases, words_of
 
@@ -52,12 +51,6 @@ def vectors():
     (crate / "stdin").write_bytes(cases)
     (crate / "stdout").write_text("".join(lines))
     print(f"{len(lines)} cases stored")
-
-
-def runs():
-    lines = [line_of(answer) + "\n" for answer in run_calls()]
-    (CRATES / "reel_runs" / "stdout").write_text("".join(lines))
-    print(f"{len(lines)} answers stored")
 
 
 def replay():
@@ -109,7 +102,7 @@ def check():
     print(f"the worked block held; {len(script.answers)} calls of the replay script answered, {script.round_trips} round trips held")
 
 
-COMMANDS = {"check": check, "vectors": vectors, "runs": runs, "replay": replay, "reports": reports, "pack": pack, "unpack": unpack}
+COMMANDS = {"check": check, "vectors": vectors, "replay": replay, "reports": reports, "pack": pack, "unpack": unpack}
 
 
 def main(words):

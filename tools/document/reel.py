@@ -106,11 +106,12 @@ def hold_standing(knots):
     hold(len(knots) <= KNOTS_MAX, len(knots), "knots")
     positions = [position for position, _ in knots]
     hold(all(0 <= position <= POSITION_MAX for position in positions), "positions", positions)
-    hold(all(1 <= b - a <= GAP_MAX for a, b in zip(positions, positions[1:])), "gaps", positions)
+    gaps = [b - a for a, b in zip(positions, positions[1:])]
+    hold(all(1 <= h <= GAP_MAX for h in gaps), "gaps", positions)
     for k, (_, coefficients) in enumerate(knots):
         hold(1 <= len(coefficients) <= GRADE_MAX + 1, "grade of", knots[k])
-        hold(keeps_size_rule(coefficients, Reel(knots).gaps_beside(k)), "size rule at", k, knots)
-    for k in range(len(knots) - 1):
+        hold(keeps_size_rule(coefficients, gaps[max(k - 1, 0) : k + 1] or [1]), "size rule at", k, knots)
+    for k in range(len(gaps)):
         hold_ends(Reel(knots).piece(k))
 
 

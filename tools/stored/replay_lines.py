@@ -8,7 +8,7 @@ from document.text import Unreadable, signed, unsigned, whole
 PASSED_OVER = (b"#", b"=", b"~")
 LENT = b"\xa5"
 LENT_MAX = 32_768
-SCRIPT_MAX = 1_048_576
+LINE_MAX = 524_288
 
 
 def bytes_of_hex(field):
@@ -35,11 +35,9 @@ def line_for(name, *fields):
 
 
 def line_of(answer):
-    """A yes or no, a number in a list, or the number of a refusal, 0 for an accepted call."""
+    """A yes or no, or the number of a refusal, 0 for an accepted call."""
     if isinstance(answer, bool):
         return "yes" if answer else "no"
-    if isinstance(answer, list):
-        return str(answer[0])
     return f"refused {answer}" if answer else "accepted"
 
 
@@ -89,9 +87,11 @@ def answer_to_call(line, reel):
 
 
 def answer_to(line, reel):
-    """The answer to one line, or None where it is passed over."""
+    """The answer to one line, or None where it is passed over. Another line that is too long is unreadable, whatever it says."""
     if not line or line.startswith(PASSED_OVER):
         return None
+    if len(line) > LINE_MAX:
+        return "unreadable"
     try:
         return answer_to_call(line, reel)
     except Unreadable:

@@ -23,17 +23,15 @@ class Transcript:
         self.lines += [line, f"= {answer}"]
         self.answers.append(answer)
         hold(answer == "accepted" or self.reel.knots == before, "the reel changes at", line)
-        if answer == "accepted":
-            hold_standing(self.reel.knots)
+        hold_standing(self.reel.knots)
         self.hold_round_trips(line, answer)
         if answer == "unreadable" or answer.startswith("refused"):
             self.look_now_and_then()
 
     def hold_round_trips(self, line, answer):
-        """read(write(reel)) is the reel, and write(read(block)) is the block, of every reel and block that is accepted."""
-        if answer == "accepted":
-            hold(knots_of(block_of(self.reel.knots)) == self.reel.knots, "read(write(reel)) after", line)
-            self.round_trips += 1
+        """read(write(reel)) is the reel after every call; write(read(block)) is the block, of every accepted one."""
+        hold(knots_of(block_of(self.reel.knots)) == self.reel.knots, "read(write(reel)) after", line)
+        self.round_trips += 1
         name, *blocks = line.split(" ")
         if (name == "read" and answer == "accepted") or (name == "same" and answer in ("yes", "no")):
             for block in map(bytes.fromhex, blocks):

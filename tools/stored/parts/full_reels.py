@@ -90,6 +90,16 @@ def long_blocks(script, flat, seventh):
         script.expect(number, "read", packed(block_words(knots) + zeros))
 
 
+def a_flat_reel(script):
+    """A reel of flat knots at 0 to 128: filled, the next refused 2, corrected at an inner knot"""
+    script.expect(0, "clear")
+    for k in range(KNOTS_MAX):
+        script.expect(0, "append", k, FLAT)
+    script.expect(2, "append", KNOTS_MAX, FLAT)
+    script.expect(0, "correct", 64, (5, -3))
+    script.write(1_044)
+
+
 def greatest_totals(script):
     """Full reels at the limits of gap and size: the greatest totals of either sign"""
     for c in (SIZE_MAX, -SIZE_MAX):

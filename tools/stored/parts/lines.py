@@ -1,7 +1,7 @@
 """Parts of the replay script: the forms of a line, and lines that are unreadable."""
 from document.block import block_of
 from document.known_results import WORKED
-from stored.replay_lines import LENT_MAX, hex_of
+from stored.replay_lines import LENT_MAX, LINE_MAX, hex_of
 
 
 def lines_passed_over(script):
@@ -108,8 +108,19 @@ def unreadable_lines(script):
     script.write(28)
 
 
+def long_lines(script):
+    """The longest line that is read, and longer ones: unreadable, or passed over at any length"""
+    script.hold_knots((7, (1, 2)), (9, (3,)))
+    for over, answer in ((0, "accepted"), (1, "unreadable"), (65_536, "unreadable")):
+        start, end = f"append {10 + over} ", "01"
+        script.call(start + "0" * (LINE_MAX + over - len(start + end)) + end, answer)
+    script.passed_over("#" + " append 11 1" * (LINE_MAX // 12 + 1))
+    script.write(36)
+
+
 def the_last_line(script):
-    """The last line lacks its line feed, and lends the most bytes that a line may"""
+    """The most bytes that a line may lend; the last line lacks its line feed"""
     script.expect(0, "read", block_of(WORKED))
     script.write(41)
     script.write(LENT_MAX)
+    script.write(40)

@@ -99,16 +99,25 @@ def all_pairs_and_gaps(script):
 
 
 def slight(chance, grade, h):
-    """Coefficients whose p_j are at most 1, 8, 8, .. at h, so that totals have few digits."""
+    """Coefficients whose p_j are at most 1, 8, 8, .. at h, so that totals are near 0."""
     return (chance.choice((-1, 1)), *(chance.randint(-(8 // h**j), 8 // h**j) for j in range(1, grade + 1)))
+
+
+def add_up_all_ranges(script, chance, lists):
+    """Of a full reel of mixed grades."""
+    grades = [*cycle_of_grades()] * 2
+    gaps = [chance.choice((1, 1, 1, 1, 2, 2, 3, chance.randint(4, GAP_MAX))) for _ in range(KNOTS_MAX - 1)]
+    script.hold_knots(*laid_out(chance, 0, grades + grades[:1], gaps, lists))
+    ranges = [(i, j) for j in range(KNOTS_MAX) for i in range(j + 1)]
+    script.add_up(*ranges)
+    hold(script.answers[-len(ranges) :].count("total 0") == KNOTS_MAX, "ranges with the total 0")
 
 
 def all_ranges(script):
     """The total of every range of a full reel of mixed grades; only the empty ranges have 0"""
-    chance = random.Random(380)
-    grades = [*cycle_of_grades()] * 2
-    gaps = [chance.choice((1, 1, 1, 1, 2, 2, 3, chance.randint(4, GAP_MAX))) for _ in range(KNOTS_MAX - 1)]
-    script.hold_knots(*laid_out(chance, 0, grades + grades[:1], gaps, (slight,)))
-    ranges = [(i, j) for j in range(KNOTS_MAX) for i in range(j + 1)]
-    script.add_up(*ranges)
-    hold(script.answers[-len(ranges) :].count("total 0") == KNOTS_MAX, "ranges with the total 0")
+    add_up_all_ranges(script, random.Random(380), (slight,))
+
+
+def all_ranges_to_the_limits(script):
+    """The total of every range of a full reel of mixed grades, with coefficients up to the limits of the size rule"""
+    add_up_all_ranges(script, random.Random(6), (ordinary, ordinary, extreme))
