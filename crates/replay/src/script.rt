@@ -1,8 +1,4 @@
 // The script, read a buffer at a time, and run line by line.
-ghost use Prim.Native.Nat.{_≤_};
-ghost use mathlib.Core.Path.{_≡_};
-ghost use lib.ListN.{length};
-ghost use Rattle.reel.specs.Machine.{Held};
 use crate::field::LINE_MAX;
 use crate::field::room;
 use crate::line::answered;
