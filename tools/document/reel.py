@@ -1,4 +1,6 @@
 """The reel with its calls and queries, what a reel is, and the call same."""
+from functools import cache
+
 from document.block import block_of, knots_of
 from document.hold import hold
 from document.knot import GAP_MAX, GRADE_MAX, KNOTS_MAX, POSITION_MAX, Refused, keeps_size_rule, misplaced, oversized, too_far
@@ -101,6 +103,7 @@ class Reel:
         return [sum(map(total, added))]
 
 
+@cache
 def hold_standing(knots):
     """What a reel is ("The reel"), said of the whole list at once and not knot by knot as append tests it."""
     hold(len(knots) <= KNOTS_MAX, len(knots), "knots")

@@ -1,8 +1,15 @@
 """The replay script as it grows: a transcript, each call with its answer after it."""
+from functools import cache
+
 from document.block import block_of, knots_of
 from document.hold import hold
 from document.reel import Reel, hold_standing
 from stored.replay_lines import LENT, answer_to, hex_of, line_for, line_of
+
+
+@cache
+def hold_written_and_read(knots):
+    hold(tuple(knots_of(block_of(knots))) == knots, "read(write(reel)) of", knots)
 
 
 class Transcript:
@@ -23,14 +30,14 @@ class Transcript:
         self.lines += [line, f"= {answer}"]
         self.answers.append(answer)
         hold(answer == "accepted" or self.reel.knots == before, "the reel changes at", line)
-        hold_standing(self.reel.knots)
+        hold_standing(tuple(self.reel.knots))
         self.hold_round_trips(line, answer)
         if answer == "unreadable" or answer.startswith("refused"):
             self.look_now_and_then()
 
     def hold_round_trips(self, line, answer):
         """read(write(reel)) is the reel after every call; write(read(block)) is the block, of every accepted one."""
-        hold(knots_of(block_of(self.reel.knots)) == self.reel.knots, "read(write(reel)) after", line)
+        hold_written_and_read(tuple(self.reel.knots))
         self.round_trips += 1
         name, *blocks = line.split(" ")
         if (name == "read" and answer == "accepted") or (name == "same" and answer in ("yes", "no")):
