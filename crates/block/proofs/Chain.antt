@@ -15,13 +15,13 @@ use Rattle.integer.proofs.Tests.{both}
 use Rattle.rounding.specs.Limits.{positionMax, gapMax, sizeMax}
 use Rattle.rounding.proofs.Bounds.{sized-one, one-within}
 use Rattle.rounding.specs.Size.{sized, Listed}
-use Rattle.knot.specs.Scan.{Scan, scanOf, gap, at, before, after, leftList, rightList}
-use Rattle.knot.specs.SizeRule.{follows}
-use Rattle.knot.specs.Standing.{Standing}
-use Rattle.knot.specs.RefusalTable.{positionCauses}
-use Rattle.knot.proofs.Causes.{Quiet}
-use Rattle.knot.proofs.Lists.{there, past}
-use Rattle.knot.proofs.Standing.{sized-right, sized-left}
+use Rattle.scans.specs.Scan.{Scan, scanOf, gap, at, before, leftList, rightList}
+use Rattle.scans.specs.SizeRule.{follows}
+use Rattle.scans.specs.Standing.{Standing}
+use Rattle.scans.specs.RefusalTable.{positionCauses}
+use Rattle.scans.proofs.Causes.{Quiet}
+use Rattle.scans.proofs.Lists.{there, past}
+use Rattle.scans.proofs.Standing.{sized-right, sized-left}
 
 -- ---- a scan that may follow the last one, and whose coefficients have 30 bits
 

@@ -1,3 +1,6 @@
+pub mod Fields
+pub mod Bytes
+pub mod Steps
 pub mod Chain
 pub mod Reading
 pub mod ReadBack

@@ -12,16 +12,16 @@ use lib.Seq.{take-at, drop-at}
 use Rattle.integer.specs.Within.{Within}
 use Rattle.integer.proofs.Tests.{both}
 use Rattle.rounding.specs.Limits.{sizeMax}
-use Rattle.knot.specs.Scan.{Scan, scanOf, grade as Scan·grade}
-use Rattle.knot.specs.SizeRule.{follows}
-use Rattle.knot.specs.RefusalTable.{positionCauses}
-use Rattle.knot.proofs.Causes.{Quiet}
-use Rattle.word.specs.Fields.{kind, position, grade, knotSpare, knotWord, payload, coefficientWord, wordsBefore, endWord}
-use Rattle.word.specs.Bytes.{Below}
+use Rattle.scans.specs.Scan.{Scan, scanOf, grade as Scan·grade}
+use Rattle.scans.specs.SizeRule.{follows}
+use Rattle.scans.specs.RefusalTable.{positionCauses}
+use Rattle.scans.proofs.Causes.{Quiet}
+use Rattle.block.specs.Fields.{kind, position, grade, knotSpare, knotWord, payload, coefficientWord, wordsBefore, endWord}
+use Rattle.block.specs.Bytes.{Below}
 use Rattle.block.specs.Block.{scanWords, knotsWords}
 use Rattle.block.specs.Reading.{coefficientCauses, scanFrom, knotsCauses, knotsFrom}
-use Rattle.word.proofs.Fields.{knot-kind, knot-position, knot-grade, knot-spare, twos-below, coefficient-kind, coefficient-payload, end-kind, end-before}
-use Rattle.word.proofs.Bytes.{below-both}
+use Rattle.block.proofs.Fields.{knot-kind, knot-position, knot-grade, knot-spare, twos-below, coefficient-kind, coefficient-payload, end-kind, end-before}
+use Rattle.block.proofs.Bytes.{below-both}
 use Rattle.block.proofs.Reading.{untaken}
 use Rattle.block.proofs.Chain.{Fit, Chain}
 

@@ -3,7 +3,7 @@ use borrow.Author.Tests.{ltb-false, eqb-true, not-false}
 use mathlib.Core.Bool.{true, false, not, _&&_, true≢false}
 use mathlib.Core.List.{List, [], _∷_, _++_}
 use mathlib.Core.Option.{Option, none, some}
-use mathlib.Core.Path.{_≡_, refl, _∙_, ap}
+use mathlib.Core.Path.{_≡_, refl, sym, _∙_, ap, subst}
 use Prim.Native.Nat.{ℕ, zero, suc, _+_, _%_, _≤_}
 use native.Mathlib.Omega.{arith}
 use lib.Dec.{eqb, ltb}
@@ -11,14 +11,15 @@ use lib.ListN.{length, take, drop, length-map}
 use lib.Seq.{length-take-le}
 use Rattle.integer.proofs.Tests.{both-first, both-second}
 use Rattle.rounding.specs.Limits.{knotsMax}
-use Rattle.knot.specs.Scan.{Scan}
-use Rattle.knot.specs.SizeRule.{follows}
-use Rattle.knot.specs.RefusalTable.{Cause, first, badForm, positionCauses, sizeCauses}
-use Rattle.knot.proofs.Causes.{Quiet, quiet, quiet-both, quiet-left, quiet-right, neither, Placed, placed}
-use Rattle.word.specs.Fields.{kind, knotCount, edition, headerSpare, position, grade, knotSpare, payload}
-use Rattle.word.specs.Bytes.{words}
+use Rattle.scans.specs.Scan.{Scan}
+use Rattle.scans.specs.SizeRule.{follows}
+use Rattle.scans.specs.RefusalTable.{Cause, first, positionCauses}
+use Rattle.scans.proofs.Causes.{Quiet, quiet, quiet-both, quiet-left, quiet-right, neither, Placed, placed}
+use Rattle.block.specs.Fields.{kind, knotCount, edition, headerSpare, position, grade, knotSpare, payload}
+use Rattle.block.specs.Bytes.{words}
 use Rattle.block.specs.Block.{editionNow}
-use Rattle.block.specs.Reading.{isHeader, isKnot, lengthCauses, headerCauses, coefficientCauses, scanFrom, knotsCauses, wordsCauses, blockCauses}
+use Rattle.block.specs.Reading.{isHeader, isKnot, lengthCauses, headerCauses, knotCauses, coefficientCauses, scanFrom, knotsCauses, wordsCauses, blockCauses}
+use Rattle.block.proofs.Steps.{sizeOn, afterWord, in-order}
 
 -- ---- words
 
@@ -50,21 +51,20 @@ pub record Taken (before n : ℕ) (last : Option Scan) (w : ℕ) (ws : List ℕ)
 
 pub taken : (before n : ℕ) (last : Option Scan) (w : ℕ) (ws : List ℕ) → Quiet (knotsCauses before (suc n) last (w ∷ ws)) → Taken before n last w ws
 taken before n last w ws q =
-    let opening : List Cause = badForm (not (isKnot w)) ∷ positionCauses last (position w) in
     let cs : List Cause = coefficientCauses (grade w + 1) ws in
-    let size : List Cause = sizeCauses last (scanFrom w ws) in
-    let later : List Cause = knotsCauses before n (some (scanFrom w ws)) (drop (grade w + 1) ws) in
-    let q3 : Quiet (opening ++ cs ++ size) = quiet-left (opening ++ cs ++ size) later q in
-    let q2 : Quiet (opening ++ cs) = quiet-left (opening ++ cs) size q3 in
-    let q1 : Quiet opening = quiet-left opening cs q2 in
-    let form : isKnot w ≡ true = not-false (isKnot w) (q1 .0) in
+    let rest : List Cause = sizeOn before n last (position w) (grade w) ws in
+    let all : Quiet (knotCauses last w ++ afterWord before n last (position w) (grade w) ws) = subst Quiet (in-order before n last w ws) q in
+    let word : Quiet (knotCauses last w) = quiet-left (knotCauses last w) (afterWord before n last (position w) (grade w) ws) all in
+    let after : Quiet (cs ++ rest) = quiet-right (knotCauses last w) (cs ++ rest) all in
+    let sized : Quiet rest = quiet-right cs rest after in
+    let form : isKnot w ≡ true = not-false (isKnot w) (word .0) in
     record {
       kindIs = eqb-true (kind w) 1 (both-first (eqb (kind w) 1) _ form);
       spareIs = eqb-true (knotSpare w) 0 (both-second (eqb (kind w) 1) _ form);
-      place = placed last (position w) (q1 .1 .0) (q1 .1 .1 .0);
-      coefficients = quiet-right opening cs q2;
-      size = not-false (follows last (scanFrom w ws)) (quiet-right (opening ++ cs) size q3 .0);
-      later = quiet-right (opening ++ cs ++ size) later q;
+      place = placed last (position w) (word .1 .0) (word .1 .1 .0);
+      coefficients = quiet-left cs rest after;
+      size = not-false (follows last (scanFrom w ws)) (sized .0);
+      later = sized .1;
     }
 
 -- and back
@@ -72,9 +72,9 @@ pub untaken : (before n : ℕ) (last : Option Scan) (w : ℕ) (ws : List ℕ) �
     Quiet (coefficientCauses (grade w + 1) ws) → follows last (scanFrom w ws) ≡ true →
     Quiet (knotsCauses before n (some (scanFrom w ws)) (drop (grade w + 1) ws)) → Quiet (knotsCauses before (suc n) last (w ∷ ws))
 untaken before n last w ws form place coefficients size later =
-    let opening : List Cause = badForm (not (isKnot w)) ∷ positionCauses last (position w) in
-    let cs : List Cause = coefficientCauses (grade w + 1) ws in
-    quiet-both (opening ++ cs ++ sizeCauses last (scanFrom w ws)) _ (quiet-both (opening ++ cs) _ (quiet-both opening cs (ap not form, place) coefficients) (ap not size, tt)) later
+    subst Quiet (sym (in-order before n last w ws))
+    (quiet-both (knotCauses last w) (afterWord before n last (position w) (grade w) ws) (ap not form, place)
+    (quiet-both (coefficientCauses (grade w + 1) ws) (sizeOn before n last (position w) (grade w) ws) coefficients (ap not size, later)))
 
 -- its coefficient words are there, so its list has the grade that the word says
 coefficients-there : (n : ℕ) (ws : List ℕ) → Quiet (coefficientCauses n ws) → n ≤ length ws

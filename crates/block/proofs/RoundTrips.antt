@@ -11,16 +11,16 @@ use lib.Dec.{eqb}
 use lib.ListN.{length, take, drop, length-append, take-append-drop}
 use Rattle.integer.proofs.Tests.{both, both-first, both-second}
 use Rattle.rounding.specs.Limits.{knotsMax}
-use Rattle.knot.specs.Scan.{Scan, grade as Scan·grade}
-use Rattle.knot.specs.Standing.{Standing}
-use Rattle.knot.specs.RefusalTable.{first}
-use Rattle.knot.proofs.Causes.{Quiet, silent, quiet-both}
-use Rattle.word.specs.Fields.{kind, knotCount, edition, headerSpare, headerWord, position, grade, knotWord, payload, coefficientWord, wordsBefore, endWord}
-use Rattle.word.specs.Bytes.{words, bytes, Below}
+use Rattle.scans.specs.Scan.{Scan, grade as Scan·grade}
+use Rattle.scans.specs.Standing.{Standing}
+use Rattle.scans.specs.RefusalTable.{first}
+use Rattle.scans.proofs.Causes.{Quiet, silent, quiet-both}
+use Rattle.block.specs.Fields.{kind, knotCount, edition, headerSpare, headerWord, position, grade, knotWord, payload, coefficientWord, wordsBefore, endWord}
+use Rattle.block.specs.Bytes.{words, bytes, Below}
 use Rattle.block.specs.Block.{editionNow, scanWords, knotsWords, openWords, blockWords, block}
 use Rattle.block.specs.Reading.{isCoefficient, isEnd, lengthCauses, headerCauses, coefficientCauses, endCauses, scanFrom, knotsCauses, wordsCauses, blockCauses, knotsFrom, listOfWords, listOf}
-use Rattle.word.proofs.Fields.{header-count, header-edition, header-spare, header-kind, header-again, knot-again, coefficient-again, end-again}
-use Rattle.word.proofs.Bytes.{below-both, bytes-again, length-bytes, words-again}
+use Rattle.block.proofs.Fields.{header-count, header-edition, header-spare, header-kind, header-again, knot-again, coefficient-again, end-again}
+use Rattle.block.proofs.Bytes.{below-both, bytes-again, length-bytes, words-again}
 use Rattle.block.proofs.Reading.{Header, Taken, taken, read-grade, Accepted, accepted}
 use Rattle.block.proofs.Chain.{chain}
 use Rattle.block.proofs.ReadBack.{knots-quiet, knots-back, knots-below}

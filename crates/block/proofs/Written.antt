@@ -10,16 +10,16 @@ use lib.ListN.{length, drop, length-append, length-map}
 use lib.Seq.{append-snoc, getD-append-seam}
 use Rattle.rounding.specs.Limits.{knotsMax}
 use Rattle.rounding.specs.Size.{Listed}
-use Rattle.knot.specs.Scan.{Scan, scanOf, before}
-use Rattle.knot.specs.Standing.{Standing}
-use Rattle.knot.specs.RefusalTable.{first}
-use Rattle.knot.proofs.Causes.{Quiet}
-use Rattle.knot.proofs.Lists.{last-at}
-use Rattle.knot.proofs.Standing.{standing-none, appended-standing}
-use Rattle.word.specs.Fields.{knotCount, grade, coefficientWord, endWord}
+use Rattle.scans.specs.Scan.{Scan, scanOf, before}
+use Rattle.scans.specs.Standing.{Standing}
+use Rattle.scans.specs.RefusalTable.{first}
+use Rattle.scans.proofs.Causes.{Quiet}
+use Rattle.scans.proofs.Lists.{last-at}
+use Rattle.scans.proofs.Standing.{standing-none, appended-standing}
+use Rattle.block.specs.Fields.{knotCount, grade, coefficientWord, endWord}
 use Rattle.block.specs.Block.{scanWords, knotsWords, openWords, blockWords, block, blockMax}
 use Rattle.block.specs.Reading.{scanFrom, knotsCauses, blockCauses, knotsFrom, listOf}
-use Rattle.word.proofs.Bytes.{length-bytes}
+use Rattle.block.proofs.Bytes.{length-bytes}
 use Rattle.block.proofs.Chain.{Chain, chain}
 use Rattle.block.proofs.Reading.{Taken, taken, read-grade, Accepted, accepted}
 
@@ -29,6 +29,12 @@ pub knots-length : (last : Option Scan) (scans : List Scan) → Chain last scans
 knots-length last [] c = omega arith
 knots-length last (s ∷ scans) c =
     omega (arith, length-append (scanWords s) (knotsWords scans), length-map (s .coefficients) coefficientWord, c .0 .listed .atMost, knots-length (some s) scans (c .1))
+
+-- a header, the knots' words and the end word
+pub block-words : (scans : List Scan) → length (block scans) ≡ 4 * (2 + length (knotsWords scans))
+unfolding block
+block-words scans =
+    omega (arith, length-bytes (blockWords scans), length-append (knotsWords scans) (endWord (length (openWords scans)) ∷ []))
 
 pub block-length : (scans : List Scan) → Standing scans → length (block scans) ≤ blockMax
 unfolding block

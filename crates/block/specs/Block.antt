@@ -2,9 +2,9 @@
 use mathlib.Core.List.{List, [], _∷_, _++_, map}
 use Prim.Native.Nat.{ℕ}
 use lib.ListN.{length, drop}
-use Rattle.knot.specs.Scan.{Scan, grade}
-use Rattle.word.specs.Fields.{headerWord, knotWord, coefficientWord, endWord}
-use Rattle.word.specs.Bytes.{bytes}
+use Rattle.scans.specs.Scan.{Scan, grade}
+use Rattle.block.specs.Fields.{headerWord, knotWord, coefficientWord, endWord}
+use Rattle.block.specs.Bytes.{bytes}
 
 -- the edition
 abbrev pub editionNow : ℕ

@@ -1,2 +1,4 @@
+pub mod Fields
+pub mod Bytes
 pub mod Block
 pub mod Reading

@@ -1,14 +1,16 @@
--- Document 01, "Block" and, under "Refusal table", the order of Read: the faults of a block in word order, and the list of a block.
+-- Document 01, "Block" and, under "Refusal table", the order of Read: the faults of a block in word order, and the list
+-- of a block.
 use mathlib.Core.Bool.{Bool, true, not, _&&_, _||_}
 use mathlib.Core.List.{List, [], _∷_, _++_, map}
 use mathlib.Core.Option.{Option, none, some}
 use Prim.Native.Nat.{ℕ, zero, suc, _+_, _%_}
 use lib.Dec.{eqb, ltb}
 use lib.ListN.{length, take, drop}
-use Rattle.knot.specs.Scan.{Scan, scanOf}
-use Rattle.knot.specs.RefusalTable.{Cause, badForm, tooMany, positionCauses, sizeCauses}
-use Rattle.word.specs.Fields.{kind, knotCount, edition, headerSpare, position, grade, knotSpare, payload, wordsBefore}
-use Rattle.word.specs.Bytes.{words}
+use Rattle.scans.specs.Scan.{Scan, scanOf}
+use Rattle.scans.specs.RefusalTable.{Cause, badForm, tooMany, positionCauses, sizeCauses}
+use Rattle.block.specs.Fields.{kind, knotCount, edition, headerSpare, position, grade, knotSpare}
+use Rattle.block.specs.Fields.{payload, wordsBefore}
+use Rattle.block.specs.Bytes.{words}
 use Rattle.block.specs.Block.{editionNow}
 
 -- ---- the form of each word: its kind, its edition, its spare bits, its end count
@@ -55,7 +57,8 @@ endCauses before (w ∷ v ∷ over) = badForm true ∷ []
 abbrev pub scanFrom : ℕ → List ℕ → Scan
 scanFrom w ws = scanOf (position w) (map payload (take (grade w + 1) ws))
 
--- n knots are still to come after the last one: for each its word (1), 4, 5, its coefficient words (1), 6; then the end word
+-- n knots are still to come after the last one: for each its word (1), 4, 5, its coefficient words (1), 6; then the end
+-- word
 abbrev pub knotsCauses : ℕ → ℕ → Option Scan → List ℕ → List Cause
 knotsCauses before zero last ws = endCauses before ws
 knotsCauses before (suc n) last [] = badForm true ∷ []
@@ -70,8 +73,8 @@ wordsCauses (w ∷ ws) = headerCauses w ++ knotsCauses (length ws) (knotCount w)
 unfoldable pub blockCauses : List ℕ → List Cause
 blockCauses bs = lengthCauses (length bs) ++ wordsCauses (words bs)
 
--- ---- "the list of a block has one knot for each knot word, in order, with its position, its grade and the coefficients in its
--- coefficient words"
+-- ---- "the list of a block has one knot for each knot word, in order, with its position, its grade and the
+-- coefficients in its coefficient words"
 
 abbrev pub knotsFrom : ℕ → List ℕ → List Scan
 knotsFrom zero ws = []

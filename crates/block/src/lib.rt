@@ -1,4 +1,5 @@
-// Blocks: what they are, and that reading and writing undo each other. The reader and the writer stand above.
+// Blocks: what they are, and that reading and writing undo each other. No functions: definitions in specs/, laws in
+// proofs/; the reader and the writer stand above.
 pub const EDITION: u8 = 1;
 
 // in bytes

@@ -5,7 +5,7 @@ use mathlib.Core.Path.{_≡_}
 use Prim.Native.Nat.{ℕ, _≤_, _<_}
 use lib.ListN.{length}
 use Rattle.rounding.specs.Limits.{knotsMax}
-use Rattle.knot.specs.Scan.{Scan}
+use Rattle.scans.specs.Scan.{Scan}
 use Rattle.knot.specs.Machine.{Graded, Numbers, knotIn, scansIn}
 use Rattle.block_reader.specs.declared.reader.Contents.{Contents}
 

@@ -1,6 +1,6 @@
 // Reading blocks.
+mod faults;
 mod reader;
-mod tests;
 
 pub use reader::Contents;
 pub use reader::read;

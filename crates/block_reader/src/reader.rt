@@ -4,16 +4,16 @@ ghost use mathlib.Core.Path.{_≡_};
 ghost use Prim.Native.Nat.{_-_, _≤_};
 ghost use lib.ListN.{drop, length};
 ghost use Rattle.rounding.specs.Limits.{knotsMax};
-ghost use Rattle.knot.specs.RefusalTable.{first};
-ghost use Rattle.word.specs.Bytes.{words};
+ghost use Rattle.scans.specs.RefusalTable.{first};
+ghost use Rattle.block.specs.Bytes.{words};
 ghost use Rattle.block.specs.Reading.{blockCauses, knotsCauses, knotsFrom, listOf};
 ghost use Rattle.block_reader.specs.Machine.{Reads};
-use crate::tests::end_test;
-use crate::tests::header_test;
-use crate::tests::knot_test;
-use crate::tests::length_test;
+use crate::faults::end_fault;
+use crate::faults::header_fault;
+use crate::faults::knot_fault;
+use crate::faults::length_fault;
 use following::Neighbour;
-use following::size_test;
+use following::size_cause;
 use knot::COEFFICIENTS_MAX;
 use knot::KNOTS_MAX;
 use knot::Knot;
@@ -69,10 +69,10 @@ fn read_knots(block: &[u8], count: usize) -> Contents
     let mut i = 1;
     let refusal: u32 = 'words: loop {
         if count <= k {
-            break 'words end_test(block, i).number();
+            break 'words end_fault(block, i).number();
         }
         let word = load(block, i);
-        let fault = knot_test(last, word).number();
+        let fault = knot_fault(last, word).number();
         if fault != 0 {
             break 'words fault;
         }
@@ -92,7 +92,7 @@ fn read_knots(block: &[u8], count: usize) -> Contents
             grade: m as u8,
             coefficients,
         };
-        let fault = size_test(last, next).number();
+        let fault = size_cause(last, next).number();
         if fault != 0 {
             break 'words fault;
         }
@@ -115,12 +115,12 @@ fn read_knots(block: &[u8], count: usize) -> Contents
 pub fn read(block: &[u8]) -> Contents
     ensures { λ r. ⌜ Reads r (first (blockCauses (now (block .entry)))) (listOf (now (block .entry))) ⌝ }
 {
-    let length = length_test(block.len()).number();
+    let length = length_fault(block.len()).number();
     if length != 0 {
         return stopped(length);
     }
     let word = load(block, 0);
-    let header = header_test(word).number();
+    let header = header_fault(word).number();
     if header != 0 {
         return stopped(header);
     }

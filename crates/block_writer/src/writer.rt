@@ -4,7 +4,7 @@ ghost use Prim.Native.Nat.{_+_, _*_, _≤_};
 ghost use lib.ListN.{length as ListN·length};
 ghost use lib.Seq.{sets};
 ghost use Rattle.knot.specs.Machine.{Filled, Graded, scan, scansIn};
-ghost use Rattle.word.specs.Bytes.{bytes};
+ghost use Rattle.block.specs.Bytes.{bytes};
 ghost use Rattle.block.specs.Block.{block, scanWords, written};
 use block::EDITION;
 use knot::KNOTS_MAX;

@@ -6,13 +6,13 @@ use native.Mathlib.Numerals.{add-one}
 use native.Mathlib.Omega.{arith}
 use lib.ListN.{length}
 use Rattle.rounding.specs.Size.{Admitted}
-use Rattle.knot.specs.Scan.{at}
+use Rattle.scans.specs.Scan.{at}
 use Rattle.knot.specs.Machine.{scan, knotIn, scansIn}
 use Rattle.knot.specs.declared.held.Knot.{Knot}
 use Rattle.knot.proofs.Lists.{length-scans, at-scans}
-use Rattle.chain.specs.Pieces.{between, pieceOf, pieceAt, Has}
+use Rattle.scans.specs.Pieces.{between, pieceOf, pieceAt, Has}
 use Rattle.chain.specs.Machine.{Chained, Reached}
-use Rattle.chain.proofs.Pieces.{piece-admitted, has-assigned}
+use Rattle.scans.proofs.Pieces.{piece-admitted, has-assigned}
 
 module _ (knots : List Knot) (n : ℕ) (chained : Chained knots n) where
   room : n ≤ length knots

@@ -1,4 +1,1 @@
-pub mod Pieces
 pub mod Knots
-pub mod Sums
-pub mod Distances

@@ -1,3 +1,1 @@
-pub mod Pieces
-pub mod Queries
 pub mod Machine

@@ -2,9 +2,9 @@
 use mathlib.Core.List.{List}
 use Prim.Native.Nat.{ℕ}
 use Rattle.knot.specs.Machine.{Filled, scansIn}
-use Rattle.knot.specs.Standing.{Standing}
+use Rattle.scans.specs.Standing.{Standing}
 use Rattle.knot.specs.declared.held.Knot.{Knot}
-use Rattle.chain.specs.Pieces.{InReel}
+use Rattle.scans.specs.Pieces.{InReel}
 
 -- the first n knots of an array, whose scans can stand
 pub record Chained (knots : List Knot) (n : ℕ) : Type 0 where

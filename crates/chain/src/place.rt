@@ -1,7 +1,7 @@
 // The piece that a query position is in.
 ghost use mathlib.Core.Path.{_≡_};
 ghost use Rattle.knot.specs.Machine.{scansIn};
-ghost use Rattle.chain.specs.Pieces.{pieceAt};
+ghost use Rattle.scans.specs.Pieces.{pieceAt};
 ghost use Rattle.chain.specs.Machine.{Reached};
 use knot::KNOTS_MAX;
 use knot::Knot;

@@ -4,9 +4,9 @@ use mathlib.Core.Option.{Option, none, some}
 use mathlib.Core.Path.{_≡_}
 use Prim.Native.Nat.{ℕ, _-_, _≤_}
 use Rattle.rounding.specs.Limits.{gapMax}
-use Rattle.knot.specs.Scan.{Scan, gap}
+use Rattle.scans.specs.Scan.{Scan, gap}
 use Rattle.knot.specs.Machine.{scan}
-use Rattle.following.specs.declared.tests.Neighbour.{Neighbour}
+use Rattle.following.specs.declared.causes.Neighbour.{Neighbour}
 
 -- the scan of a neighbour
 abbrev pub neighbour : Neighbour → Option Scan

@@ -1,8 +1,8 @@
-// What may follow a knot, and the size rule of a knot between its neighbours.
-mod tests;
+// What refuses a knot after another, and the size rule of a knot between its neighbours.
+mod causes;
 
-pub use tests::Neighbour;
-pub use tests::list_test;
-pub use tests::position_test;
-pub use tests::size_rule;
-pub use tests::size_test;
+pub use causes::Neighbour;
+pub use causes::list_cause;
+pub use causes::position_cause;
+pub use causes::size_cause;
+pub use causes::size_rule;

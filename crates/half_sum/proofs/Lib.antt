@@ -1,3 +1,3 @@
-pub mod Machine
+pub mod Terms
 pub mod Tables
 pub mod Rows

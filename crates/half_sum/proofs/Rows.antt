@@ -11,7 +11,7 @@ use Rattle.integer.proofs.Sum.{sum-cong}
 use Rattle.hermite.specs.Binomial.{binomial}
 use Rattle.hermite.specs.HalfSum.{g}
 use Rattle.hermite.specs.Polynomial.{coefficient}
-use Rattle.half_sum.proofs.Machine.{term}
+use Rattle.half_sum.proofs.Terms.{term}
 use Rattle.half_sum.proofs.Tables.{entries-are, entry-is, part-entry}
 
 -- row n of the table is binomial(n+7, 7) down to binomial(n, 0): the entry at 8 n + 7 − k is binomial(n+k, k)

@@ -12,7 +12,7 @@ use lib.ListN.{getD, take, drop, length, length-take, List·getD-eq-default}
 use lib.Seq.{getD-take, getD-drop}
 use Rattle.integer.proofs.Tests.{both-first, both-second}
 use Rattle.hermite.specs.Water.{waterUnit}
-use Rattle.knot_weights.specs.Lists.{Entries}
+use Rattle.knot_weights.specs.Machine.{Entries}
 
 pub part-entry : (t : List ℕ) (k from j : ℕ) → j < k → getD (take k (drop from t)) j 0 ≡ getD t (from + j) 0
 part-entry t k from j h = rw (getD-take, getD-drop)

@@ -6,7 +6,7 @@ ghost use lib.ListN.{getD, length};
 ghost use Rattle.integer.specs.Sum.{sum as Sum·sum};
 ghost use Rattle.hermite.specs.HalfSum.{g as HalfSum·g};
 ghost use Rattle.hermite.specs.Polynomial.{coefficient};
-ghost use Rattle.knot_weights.specs.Lists.{Entries, Lists, Weights};
+ghost use Rattle.knot_weights.specs.Machine.{Entries, Lists, Weights};
 ghost use Rattle.rounding.specs.Limits.{gradeMax, sizeMax};
 
 // Row n, from 0 to 8: binomial(n+7, 7), binomial(n+6, 6) and so on down to binomial(n, 0).

@@ -58,6 +58,9 @@ equal-self : (x : ℤ) → equal x x ≡ true
 equal-self (pos a) = eq-eqb a a refl
 equal-self (negsuc a) = eq-eqb a a refl
 
+pub eq→equal : {x y : ℤ} → x ≡ y → equal x y ≡ true
+eq→equal {y = y} e = rw e (equal-self y)
+
 -- two numbers that fit are equal where their bits are
 pub same-bits : (w : Width) (x y : ℤ) → SFits w x → SFits w y → eqb (ofZ w x) (ofZ w y) ≡ equal x y
 same-bits w x y f g = go (ℤ-discrete x y)

@@ -1,4 +1,2 @@
-pub mod Causes
 pub mod Lists
 pub mod Numbers
-pub mod Standing

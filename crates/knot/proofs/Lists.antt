@@ -1,35 +1,16 @@
--- Laws of lists: the element at a place, and past the end; lists that are mapped, lengthened or stored to.
+-- Laws of lists of knots, and of the scans of the first n knots of an array.
 use mathlib.Core.Logic.{_≢_}
 use mathlib.Core.List.{List, [], _∷_, _++_, map}
-use mathlib.Core.Option.{none, some}
 use mathlib.Core.Path.{_≡_, refl, _∙_, ap}
 use Prim.Native.Nat.{ℕ, zero, suc, _+_, _≤_, _<_}
 use native.Mathlib.Decide.{ℕ-discrete}
 use native.Mathlib.Numerals.{add-one}
 use native.Mathlib.Omega.{arith}
-use lib.ListN.{length, take, getD, getElem?, set, length-map}
+use lib.ListN.{length, take, getD, set, length-map}
 use lib.Seq.{length-take-le, getD-take, take-suc-set, getD-set-same, getD-set-other}
-use Rattle.knot.specs.Scan.{Scan, at, before}
+use Rattle.scans.specs.Scan.{Scan, at}
 use Rattle.knot.specs.Machine.{scan, Graded, knotIn, scansIn}
 use Rattle.knot.specs.declared.held.Knot.{Knot}
-
-pub there : (l : List Scan) (j : ℕ) → j < length l → getElem? l j ≡ some (at l j)
-there [] j h = absurd (omega arith)
-there (x ∷ l) zero h = refl
-there (x ∷ l) (suc j) h = there l j (omega arith)
-
-pub past : (l : List Scan) (j : ℕ) → length l ≤ j → getElem? l j ≡ none
-past [] j h = refl
-past (x ∷ l) zero h = absurd (omega arith)
-past (x ∷ l) (suc j) h = past l j (omega arith)
-
-pub last-at : (l : List Scan) (j : ℕ) → suc j ≡ length l → before l (length l) ≡ some (at l j)
-last-at l j e = rw (← e) (there l j (omega arith))
-
-pub got-old : (l t : List Scan) (j : ℕ) → j < length l → getElem? (l ++ t) j ≡ getElem? l j
-got-old [] t j h = absurd (omega arith)
-got-old (x ∷ l) t zero h = refl
-got-old (x ∷ l) t (suc j) h = got-old l t j (omega arith)
 
 pub map-append-one : {A B : Type 0} (f : A → B) (l : List A) (k : A) → map f (l ++ k ∷ []) ≡ map f l ++ f k ∷ []
 map-append-one f [] k = refl

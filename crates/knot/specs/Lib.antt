@@ -1,5 +1,1 @@
-pub mod Scan
-pub mod SizeRule
-pub mod Standing
-pub mod RefusalTable
 pub mod Machine

@@ -5,7 +5,7 @@ use mathlib.Core.Path.{_≡_}
 use Prim.Native.Nat.{ℕ, zero, suc, _+_, _≤_, _<_}
 use lib.ListN.{length, take, getD}
 use Rattle.rounding.specs.Limits.{knotsMax, gradeMax}
-use Rattle.knot.specs.Scan.{Scan}
+use Rattle.scans.specs.Scan.{Scan}
 use Rattle.knot.specs.declared.held.Knot.{Knot}
 use Rattle.knot.specs.declared.table.Refusal.{Refusal}
 use Rattle.knot.specs.declared.table.Refusal.the-variants as Refusals

@@ -4,7 +4,7 @@ ghost use Prim.Native.Nat.{_+_, _-_, _≤_};
 ghost use lib.ListN.{length, take};
 ghost use Rattle.rounding.specs.Limits.{gapMax, gradeMax};
 ghost use Rattle.rounding.specs.Size.{Listed, sized as Size·sized};
-ghost use Rattle.knot.specs.Scan.{leftList, moisture as Scan·moisture, rightList, scanOf};
+ghost use Rattle.scans.specs.Scan.{leftList, moisture as Scan·moisture, rightList, scanOf};
 ghost use Rattle.knot.specs.Machine.{scan, Graded, Holds};
 use crate::limits::COEFFICIENTS_MAX;
 use crate::size::sized;
@@ -44,7 +44,8 @@ impl Knot {
         }
     }
 
-    // The size rule for the list that serves the piece on the knot's left, of h steps.
+    // The size rule for the list that serves the piece on the knot's left, of h steps. Its name and the next wait for
+    // request 8/14, which gives a knot two lists.
     pub fn left_sized(self, h: u64) -> bool
         requires { ⌜ (Graded self) × (h ≤ gapMax) ⌝ }
         ensures { λ b. ⌜ b ≡ Size·sized h (leftList (scan self)) ⌝ }

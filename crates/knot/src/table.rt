@@ -64,14 +64,14 @@ impl Refusal {
     }
 }
 
-// What a test of some causes finds.
+// What is found of some causes: that none holds, or the first that does.
 pub enum Verdict {
     Passed,
     Refused(Refusal),
 }
 
 impl Verdict {
-    // The refusal's number; 0 where the test passes.
+    // The refusal's number; 0 where nothing refuses.
     pub fn number(self) -> u32
         ensures { λ n. ⌜ Numbers n (refusal self) ⌝ }
     {

@@ -12,7 +12,7 @@ use Rattle.integer.proofs.Within.{within-natural, within-more}
 use Rattle.hermite.specs.Polynomial.{coefficient}
 use Rattle.hermite.specs.Slope.{primed}
 use Rattle.rounding.proofs.Bounds.{primed-within}
-use Rattle.knot_weights.specs.Lists.{Lists, Weights}
+use Rattle.knot_weights.specs.Machine.{Lists, Weights}
 
 -- w holds f below k, and from k on still what it held, v
 pub record Filled (w : List ℤ) (f v : ℕ → ℤ) (k : ℕ) : Type 0 where

@@ -6,7 +6,7 @@ ghost use lib.ListN.{length};
 ghost use Rattle.hermite.specs.Blend.{rightWeights};
 ghost use Rattle.hermite.specs.Polynomial.{coefficient};
 ghost use Rattle.hermite.specs.Slope.{primed as Slope·primed};
-ghost use Rattle.knot_weights.specs.Lists.{Lists, Weights};
+ghost use Rattle.knot_weights.specs.Machine.{Lists, Weights};
 ghost use Rattle.rounding.specs.Piece.{weight};
 ghost use Rattle.rounding.specs.Limits.{gapMax, gradeMax, sizeMax};
 ghost use Rattle.rounding.specs.Size.{sized};

@@ -12,14 +12,15 @@ use lib.Dec.{ltb}
 use lib.ListN.{length, take, set, getElem?}
 use lib.Seq.{take-set-lt}
 use Rattle.rounding.specs.Limits.{knotsMax, gapMax}
-use Rattle.knot.specs.Scan.{Scan, gap, at, before, after}
+use Rattle.scans.specs.Scan.{Scan, gap, at, before, after}
 use Rattle.knot.specs.Machine.{scan, scansIn, Graded}
 use Rattle.following.specs.Machine.{neighbour}
 use Rattle.knot.specs.declared.held.Knot.{Knot}
 use Rattle.reel.specs.Machine.{scans, knotAt, Held}
-use Rattle.reel.specs.declared.calls.Reel.{Reel}
+use Rattle.reel.specs.declared.held.Reel.{Reel}
 use Rattle.knot.proofs.Lists as Lists
-use Rattle.knot.proofs.Lists.{there, past, map-set, scans-stored}
+use Rattle.scans.proofs.Lists.{there, past}
+use Rattle.knot.proofs.Lists.{map-set, scans-stored}
 
 -- the scans of a reel with these knots
 pub scans-of : (knots : List Knot) (count : ℕ) → scans (record { knots = knots; count = count }) ≡ scansIn count knots

@@ -1,5 +1,1 @@
-pub mod Calls
-pub mod Same
-pub mod KnownResults
 pub mod Machine
-pub mod Sequences

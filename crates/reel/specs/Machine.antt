@@ -5,13 +5,13 @@ use mathlib.Core.Option.{none}
 use mathlib.Core.Path.{_≡_}
 use Prim.Native.Nat.{ℕ}
 use Rattle.rounding.specs.Limits.{knotsMax, gradeMax, gapMax, sizeMax}
-use Rattle.knot.specs.Scan.{Scan}
-use Rattle.knot.specs.Standing.{Standing}
-use Rattle.knot.specs.RefusalTable.{first}
+use Rattle.scans.specs.Scan.{Scan}
+use Rattle.scans.specs.Standing.{Standing}
+use Rattle.scans.specs.RefusalTable.{first}
 use Rattle.knot.specs.Machine.{Filled, knotIn, scansIn, number as refusalNumber}
 use Rattle.knot.specs.declared.held.Knot.{Knot}
-use Rattle.reel.specs.Calls.{Call, Reply, accepted, number, refused, causes, changes, replyTo, left, output}
-use Rattle.reel.specs.declared.calls.Reel.{Reel}
+use Rattle.calls.specs.Calls.{Call, Reply, accepted, number, refused, causes, changes, replyTo, standingAfter, output}
+use Rattle.reel.specs.declared.held.Reel.{Reel}
 use Rattle.reel.specs.declared.answer.Answer.{Answer}
 use Rattle.reel.specs.declared.answer.Answer.the-variants as Answers
 
@@ -46,7 +46,7 @@ pub record Does (call : Call) (given : Reel) (answer : Answer) (handed : Reel) (
   -- the reply is the model's on the scans given
   pub replies : replyOf answer ≡ replyTo call (scans given)
   -- the scans left are the model's
-  pub leaves : scans handed ≡ left call (scans given)
+  pub leaves : scans handed ≡ standingAfter call (scans given)
   pub held : Held handed
   -- a refused call, and one that changes nothing, hands back the very reel it was given
   pub kept : (first (causes call (scans given)) ≡ none → changes call ≡ false) → handed ≡ given

@@ -1,5 +1,5 @@
 // What a call hands back.
-use crate::calls::Reel;
+use crate::held::Reel;
 use knot::Refusal;
 
 // What a call answers.

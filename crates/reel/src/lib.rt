@@ -1,8 +1,8 @@
 // The held reel with its calls.
 mod answer;
-mod calls;
+mod held;
 mod index;
 
 pub use answer::Answer;
 pub use answer::Handed;
-pub use calls::Reel;
+pub use held::Reel;

@@ -1,3 +1,2 @@
 mod Opening
 mod Texts
-pub mod Numbers

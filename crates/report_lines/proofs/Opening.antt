@@ -6,17 +6,17 @@ use mathlib.Core.Path.{_≡_, refl, sym, _∙_}
 use Prim.Native.Nat.{ℕ, _≤_, _<_}
 use lib.Dec.{ltb}
 use lib.ListN.{length}
-use Rattle.knot.specs.RefusalTable.{first, badForm, tooFew}
+use Rattle.scans.specs.RefusalTable.{first, badForm, tooFew}
 use Rattle.knot.specs.Machine.{refusal}
 use Rattle.knot.specs.declared.table.Refusal.the-variants as Refusals
 use Rattle.knot.specs.declared.table.Verdict.{Verdict}
 use Rattle.knot.specs.declared.table.Verdict.the-variants as Verdicts
-use Rattle.knot.proofs.Causes.{first-found, first-later, quiet, quiet-right}
+use Rattle.scans.proofs.Causes.{first-found, first-later, quiet, quiet-right}
 use Rattle.block.specs.Block.{blockMax}
 use Rattle.block.specs.Reading.{blockCauses, listOf}
-use Rattle.reel.specs.Calls.{accepted, refused, read, replyTo, left}
+use Rattle.calls.specs.Calls.{accepted, refused, read, replyTo, standingAfter}
 use Rattle.reel.specs.Machine.{Held, Does, scans, replyOf}
-use Rattle.reel.specs.declared.calls.Reel.{Reel}
+use Rattle.reel.specs.declared.held.Reel.{Reel}
 use Rattle.reel.specs.declared.answer.Answer.{Answer}
 use Rattle.reel.specs.declared.answer.Answer.the-variants as Answers
 use Rattle.report_lines.specs.Report.{refusedLine, reportCauses, reported, reportOf}
@@ -31,7 +31,7 @@ opens-over bytes held h =
 -- within the limit read's causes come first, then 8
 module _ (bytes : List ℕ) (h : length bytes ≤ blockMax) {given r : Reel} {a : Answer} (d : Does (read bytes) given a r []) (v : Verdict) (is : refusal v ≡ refusalIn (replyOf a) (length (scans r))) where
   by-fault : (o : Option ℕ) → first (blockCauses bytes) ≡ o → Opens (record { reel = r; verdict = v }) bytes
-  unfolding reportCauses replyTo left
+  unfolding reportCauses replyTo standingAfter
   by-fault none e =
       let list : scans r ≡ listOf bytes = rw e at (d .leaves) in
       let reply : replyOf a ≡ accepted = rw e at (d .replies) in

@@ -8,14 +8,14 @@ use lib.ListN.{length, take}
 use lib.Seq.{length-sets, sets-eq, take-at}
 use Rattle.text.specs.Text.{Put}
 use Rattle.text.proofs.Sets.{put-put}
-use Rattle.knot.specs.Scan.{Scan}
-use Rattle.reel.specs.Calls.{Reply, total, replyTo}
+use Rattle.scans.specs.Scan.{Scan}
+use Rattle.calls.specs.Calls.{Reply, total, replyTo}
 use Rattle.report_lines.specs.Report.{pieceLine, reelLine, reelText}
 use Rattle.report_lines.specs.Machine.{Asks, rowText}
 use Rattle.report_lines.specs.declared.row.Row.{Row}
 
 pub put-none : (l : List ℕ) (i : ℕ) → Put l i [] i l
-put-none l i = record { next = sym (add-zero i); left = refl }
+put-none l i = record { next = sym (add-zero i); holds = refl }
 
 -- a text with what stands behind it, as the lines are written
 pub put-behind : {l l′ l″ xs : List ℕ} {i j k : ℕ} (ys zs : List ℕ) → Put l i xs j l′ → Put l′ j (ys ++ zs) k l″ → Put l i (xs ++ ys ++ zs) k l″
@@ -33,4 +33,4 @@ reel-is scans n e = rw e refl
 pub put-first : {l l′ text : List ℕ} {r : ℕ} → Put l 0 text r l′ → r ≤ length l → (r ≤ length l′) × (take r l′ ≡ text)
 put-first {l} {l′} {text} {r} p h =
     let e : r ≡ length text = omega (arith, p .next) in
-    rw (p .left, e) (rw length-sets (omega arith), rw (sets-eq text l 0 (omega arith)) (take-at text _ _ refl))
+    rw (p .holds, e) (rw length-sets (omega arith), rw (sets-eq text l 0 (omega arith)) (take-at text _ _ refl))

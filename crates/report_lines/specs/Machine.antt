@@ -4,12 +4,12 @@ use mathlib.Core.Option.{Option, none, some}
 use mathlib.Core.Path.{_≡_}
 use Prim.Native.Nat.{ℕ, suc, _≤_}
 use lib.ListN.{length, take}
-use Rattle.knot.specs.Scan.{Scan, at}
-use Rattle.knot.specs.RefusalTable.{first, tooFew}
+use Rattle.scans.specs.Scan.{Scan, at}
+use Rattle.scans.specs.RefusalTable.{first, tooFew}
 use Rattle.knot.specs.Machine.{refusal}
 use Rattle.block.specs.Reading.{listOf}
-use Rattle.chain.specs.Pieces.{mark}
-use Rattle.reel.specs.Calls.{Reply, accepted, number, refused, value, trend, total, replyTo}
+use Rattle.scans.specs.Pieces.{mark}
+use Rattle.calls.specs.Calls.{Reply, accepted, number, refused, value, trend, total, replyTo}
 use Rattle.reel.specs.Machine.{scans, Held, replyOf}
 use Rattle.report_lines.specs.Report.{pieceText, reportCauses, reportOf}
 use Rattle.report_lines.specs.declared.opened.Opened.{Opened}

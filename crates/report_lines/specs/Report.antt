@@ -5,12 +5,12 @@ use Prim.Native.Nat.{ℕ, zero, suc, _-_}
 use lib.Dec.{ltb}
 use lib.ListN.{length}
 use Rattle.text.specs.Text.{decimal, signedDecimal}
-use Rattle.knot.specs.Scan.{Scan, at}
-use Rattle.knot.specs.RefusalTable.{Cause, first, badForm, tooFew}
+use Rattle.scans.specs.Scan.{Scan, at}
+use Rattle.scans.specs.RefusalTable.{Cause, first, badForm, tooFew}
 use Rattle.block.specs.Block.{blockMax}
 use Rattle.block.specs.Reading.{blockCauses, listOf}
-use Rattle.chain.specs.Pieces.{mark}
-use Rattle.reel.specs.Calls.{Reply, accepted, number, refused, value, trend, total, replyTo}
+use Rattle.scans.specs.Pieces.{mark}
+use Rattle.calls.specs.Calls.{Reply, accepted, number, refused, value, trend, total, replyTo}
 
 abbrev pub space : List ℕ
 space = 32 ∷ []

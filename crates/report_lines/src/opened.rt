@@ -1,12 +1,12 @@
 // The reel of a block, or why there is no report of it.
 ghost use mathlib.Core.List.{[], _∷_};
 ghost use mathlib.Core.Path.{_≡_};
-ghost use Rattle.knot.specs.RefusalTable.{first, tooFew};
+ghost use Rattle.scans.specs.RefusalTable.{first, tooFew};
 ghost use Rattle.knot.specs.Machine.{refusal};
 ghost use Rattle.reel.specs.Machine.{replyOf};
 ghost use Rattle.report_lines.specs.Machine.{Opens, refusalIn};
 use block::BLOCK_MAX;
-use call_tests::KNOTS_MIN;
+use first_cause::KNOTS_MIN;
 use knot::Refusal;
 use knot::Verdict;
 use reel::Answer;
@@ -19,7 +19,7 @@ pub struct Opened {
 }
 
 // Fewer than two knots: 8.
-fn count_test(count: u32) -> Verdict
+fn count_cause(count: u32) -> Verdict
     ensures { λ v. ⌜ refusal v ≡ first (tooFew count ∷ []) ⌝ }
 {
     if (count as usize) < KNOTS_MIN {
@@ -34,8 +34,8 @@ fn verdict_of(answer: Answer, count: u32) -> Verdict
 {
     match answer {
         Answer::Refused(cause) => Verdict::Refused(cause),
-        Answer::Accepted => count_test(count),
-        Answer::Number(z) => count_test(count),
+        Answer::Accepted => count_cause(count),
+        Answer::Number(z) => count_cause(count),
     }
 }
 

@@ -2,7 +2,7 @@
 ghost use mathlib.Core.Path.{_≡_};
 ghost use Prim.Native.Nat.{suc, _<_};
 ghost use lib.ListN.{length};
-ghost use Rattle.knot.specs.Scan.{at as Scan·at};
+ghost use Rattle.scans.specs.Scan.{at as Scan·at};
 ghost use Rattle.reel.specs.Machine.{Held, scans};
 ghost use Rattle.report_lines.specs.Machine.{Asks};
 use reel::Answer;

@@ -1,1 +1,1 @@
-pub mod Divisor
+pub mod Machine

@@ -2,7 +2,7 @@
 ghost use mathlib.Core.Path.{_≡_};
 ghost use Prim.Native.Nat.{_*_, _/_, _≤_, _<_, _^_, _-_};
 ghost use Rattle.integer.specs.Within.{Within};
-ghost use Rattle.scaling.specs.Divisor.{Divides, Fraction};
+ghost use Rattle.scaling.specs.Machine.{Divides, Fraction};
 ghost use Rattle.rounding.specs.Limits.{gapMax};
 ghost use Rattle.rounding.specs.Scaling.{scaled as Scaling·scaled, scaledTimes};
 

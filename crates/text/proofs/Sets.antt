@@ -9,12 +9,12 @@ use Rattle.text.specs.Text.{Put, hexText}
 
 -- a store is a text of one byte
 pub put-one : (l : List ℕ) (i b : ℕ) → Put l i (b ∷ []) (i + 1) (set l i b)
-put-one l i b = record { next = refl; left = refl }
+put-one l i b = record { next = refl; holds = refl }
 
 -- a text written behind a text is one text
 pub put-put : {l l′ l″ xs ys : List ℕ} {i j k : ℕ} → Put l i xs j l′ → Put l′ j ys k l″ → Put l i (xs ++ ys) k l″
 put-put {l} {l′} {l″} {xs} {ys} {i} {j} {k} p q =
-    record { next = rw length-append (omega (arith, p .next, q .next)); left = q .left ∙ rw (p .next, p .left) (sets-sets l i xs ys) }
+    record { next = rw length-append (omega (arith, p .next, q .next)); holds = q .holds ∙ rw (p .next, p .holds) (sets-sets l i xs ys) }
 
 pub put-within : {l l′ text : List ℕ} {i j m : ℕ} → Put l i text j l′ → length text ≤ m → j ≤ i + m
 put-within p h = omega (arith, p .next)

@@ -1,3 +1,1 @@
-pub mod Fields
-pub mod Bytes
 pub mod Shifts

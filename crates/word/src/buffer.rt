@@ -3,7 +3,7 @@ ghost use mathlib.Core.Path.{_≡_};
 ghost use Prim.Native.Nat.{_+_, _*_, _≤_};
 ghost use lib.ListN.{getD, length};
 ghost use lib.Seq.{sets};
-ghost use Rattle.word.specs.Bytes.{bytesOf, words};
+ghost use Rattle.block.specs.Bytes.{bytesOf, words};
 
 // Word k of these bytes, and 0 past the last one.
 pub fn load(bytes: &[u8], k: usize) -> u32

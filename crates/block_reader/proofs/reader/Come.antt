@@ -10,19 +10,19 @@ use lib.IntN.{ℤ}
 use lib.ListN.{length, take, drop, getD, set, length-set, length-drop}
 use lib.Seq.{take-suc, take-suc-set, getD-drop, drop-drop, append-snoc}
 use Rattle.rounding.specs.Limits.{knotsMax, gradeMax}
-use Rattle.knot.specs.Scan.{Scan, scanOf}
-use Rattle.knot.specs.RefusalTable.{first, sizeCauses}
+use Rattle.scans.specs.Scan.{Scan, scanOf}
+use Rattle.scans.specs.RefusalTable.{first, sizeCauses}
 use Rattle.knot.specs.Machine.{Numbers, scan, Graded, knotIn, scansIn}
 use Rattle.following.specs.Machine.{neighbour}
 use Rattle.knot.specs.declared.held.Knot.{Knot}
-use Rattle.following.specs.declared.tests.Neighbour.{Neighbour}
-use Rattle.knot.proofs.Causes.{first-found, first-later}
+use Rattle.following.specs.declared.causes.Neighbour.{Neighbour}
+use Rattle.scans.proofs.Causes.{first-found, first-later}
 use Rattle.knot.proofs.Lists.{map-append-one, scans-stored, graded-stored}
-use Rattle.word.specs.Fields.{kind, position, grade, payload}
+use Rattle.block.specs.Fields.{kind, position, grade, payload}
 use Rattle.block.specs.Reading.{knotCauses, coefficientCauses, knotsCauses, knotsFrom}
 use Rattle.block_reader.specs.Machine.{Reads}
 use Rattle.block_reader.specs.declared.reader.Contents.{Contents}
-use Rattle.block_reader.proofs.reader.Steps.{sizeOn, knot-passed, knot-listed, coefficient-right, coefficient-wrong, coefficient-there}
+use Rattle.block.proofs.Steps.{sizeOn, afterWord, knot-passed, knot-listed, coefficient-right, coefficient-wrong, coefficient-there}
 
 -- the first fault of the knots, and their list
 abbrev pub fault : List ℕ → ℕ → Option ℕ
@@ -95,7 +95,7 @@ next x m c = record { position = x; grade = m; coefficients = c }
 
 -- what is left to find from its first coefficient word on: its coefficient words, its size, and the n knots after it
 abbrev ahead : ℕ → ℕ → Option Scan → ℕ → ℕ → List ℕ → Option ℕ
-ahead before n last x m rest = first (coefficientCauses (m + 1) rest ++ sizeOn before n last x m rest)
+ahead before n last x m rest = first (afterWord before n last x m rest)
 
 module _ (ws : List ℕ) (count : ℕ) (knots : List Knot) (last : Neighbour) (k i : ℕ) (come : Come ws count knots last k i) (b : k < count)
     (x m : ℕ) (c : List ℤ) (passed : first (knotCauses (neighbour last) (getD ws i 0)) ≡ none)

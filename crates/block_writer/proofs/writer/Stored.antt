@@ -8,14 +8,13 @@ use native.Mathlib.Omega.{arith}
 use lib.IntN.{ℤ, pos}
 use lib.ListN.{length, take, drop, getD, length-append, length-map, drop-of-length-le}
 use lib.Seq.{sets, sets-eq, length-sets, drop-cons, getD-take}
-use Rattle.knot.specs.Scan.{Scan, at, grade}
+use Rattle.scans.specs.Scan.{at, grade}
 use Rattle.knot.specs.Machine.{scan, Graded, Filled, knotIn, scansIn}
 use Rattle.knot.specs.declared.held.Knot.{Knot}
-use Rattle.integer.proofs.Stores.{sets-sets}
 use Rattle.knot.proofs.Lists.{length-scans, at-scans, list-length}
-use Rattle.word.specs.Fields.{headerWord, knotWord, coefficientWord, endWord}
-use Rattle.word.specs.Bytes.{bytesOf, bytes}
-use Rattle.word.proofs.Bytes.{bytes-append, length-bytes}
+use Rattle.block.specs.Fields.{headerWord, knotWord, coefficientWord, endWord}
+use Rattle.block.specs.Bytes.{bytesOf, bytes}
+use Rattle.block.proofs.Bytes.{words-stored}
 use Rattle.block.specs.Block.{block, blockWords, editionNow, knotsWords, openWords, scanWords, written}
 
 -- ---- the knots still to come
@@ -62,17 +61,7 @@ module _ (knots : List Knot) (n : ℕ) (can : Filled knots n) (b k i : ℕ) (com
   pub all-counted : n ≤ k → i ≡ b + length (knotsWords (scansIn n knots))
   all-counted h = omega (arith, come .left, ap length (none-next knots n can k h))
 
-pub block-words : (scans : List Scan) → length (block scans) ≡ 4 * (2 + length (knotsWords scans))
-unfolding block
-block-words scans =
-    omega (arith, length-bytes (blockWords scans), length-append (knotsWords scans) (endWord (length (openWords scans)) ∷ []))
-
 -- ---- words stored behind one another
-
-words-stored : (l : List ℕ) (a : ℕ) (us vs : List ℕ) → sets l (4 * a) (bytes (us ++ vs)) ≡ sets (sets l (4 * a) (bytes us)) (4 * (a + length us)) (bytes vs)
-words-stored l a us vs =
-    let there : 4 * a + length (bytes us) ≡ 4 * (a + length us) = omega (arith, length-bytes us) in
-    ap (sets l (4 * a)) (bytes-append us vs) ∙ sym (sets-sets l (4 * a) (bytes us) (bytes vs)) ∙ ap (λ n. sets (sets l (4 * a) (bytes us)) n (bytes vs)) there
 
 -- the words ws go in the places from a on: the rest of them, stored from place b on, make the whole
 pub record Left (before : List ℕ) (a : ℕ) (ws out : List ℕ) (b : ℕ) (rest : List ℕ) : Type 0 where

@@ -9,10 +9,10 @@ use Rattle.rounding.specs.Piece.{Piece}
 use Rattle.rounding.specs.Size.{Admitted}
 use Rattle.knot.specs.Machine.{Graded, scan, knotIn, scansIn}
 use Rattle.knot.specs.declared.held.Knot.{Knot}
-use Rattle.chain.specs.Pieces.{between, pieceOf, mark, pieceAt, placeIn, Has}
+use Rattle.scans.specs.Pieces.{between, pieceOf, mark, pieceAt, placeIn, Has}
 use Rattle.chain.specs.Machine.{Reached}
 use Rattle.chain.proofs.Knots.{count-is, scan-at, between-is, between-admitted, has-reached}
-use Rattle.chain.proofs.Pieces.{within-piece}
+use Rattle.scans.proofs.Pieces.{within-piece}
 
 -- the piece between knots k and k+1, and the distance of x from the first of them
 abbrev pub pieceIn : List Knot → ℕ → Piece

@@ -11,7 +11,7 @@ use Rattle.integer.proofs.Sum.{sum-cong}
 use Rattle.hermite.specs.Polynomial.{coefficient}
 use Rattle.hermite.specs.Water.{c}
 use Rattle.rounding.proofs.Agree.{Agree}
-use Rattle.half_sum.proofs.Machine.{term}
+use Rattle.half_sum.proofs.Terms.{term}
 use Rattle.half_sum.proofs.Tables.{entries-are, entry-is, part-entry}
 
 -- the entry at 64 m + 8 n + j is c_j for the grades m and n

@@ -8,13 +8,13 @@ use Prim.Native.Nat.{ℕ, _-_, _≤_}
 use native.Mathlib.Omega.{arith}
 use lib.ListN.{length, getD}
 use Rattle.rounding.specs.Limits.{knotsMax}
-use Rattle.knot.specs.Scan.{Scan}
-use Rattle.knot.specs.RefusalTable.{first}
+use Rattle.scans.specs.Scan.{Scan}
+use Rattle.scans.specs.RefusalTable.{first}
 use Rattle.knot.specs.Machine.{refusal, Numbers}
-use Rattle.knot.proofs.Causes.{first-found, first-later, quiet}
+use Rattle.scans.proofs.Causes.{first-found, first-later, quiet}
 use Rattle.knot.proofs.Numbers.{passed, failed}
-use Rattle.word.specs.Fields.{knotCount}
-use Rattle.word.specs.Bytes.{words}
+use Rattle.block.specs.Fields.{knotCount}
+use Rattle.block.specs.Bytes.{words}
 use Rattle.block.specs.Reading.{lengthCauses, headerCauses, knotsCauses, wordsCauses, blockCauses, listOfWords, listOf}
 use Rattle.block_reader.specs.Machine.{Reads}
 use Rattle.block_reader.specs.declared.reader.Contents.{Contents}
@@ -38,8 +38,8 @@ header-listed : (ws : List ℕ) → first (headerCauses (getD ws 0 0)) ≡ none 
 header-listed [] e = refl
 header-listed (w ∷ ws) e = refl
 
-length-test-requires : tie.Need-length-test-requires
-length-test-requires c κs = search needs
+length-fault-requires : tie.Need-length-fault-requires
+length-fault-requires c κs = search needs
 
 number-requires : tie.Need-number-requires
 number-requires c κs = search needs
@@ -59,15 +59,15 @@ unfolding blockCauses
 returns c =
     let n = c .before .before in
     let bs = n .before .before .before .args .block .now in
-    let here = n .before .length-test in
+    let here = n .before .length-fault in
     stops bs (refusal (here .result)) (n .number .ensures) (c .before .if1 .taken)
     (λ k e. first-found (lengthCauses (length bs)) (wordsCauses (words bs)) (sym (here .ensures) ∙ e)) (c .stopped .ensures)
 
 load-requires : tie.Need-load-requires
 load-requires c κs = search needs
 
-header-test-requires : tie.Need-header-test-requires
-header-test-requires c κs = search needs
+header-fault-requires : tie.Need-header-fault-requires
+header-fault-requires c κs = search needs
 
 number-requires-2 : tie.Need-number-requires-2
 number-requires-2 c κs = search needs
@@ -81,11 +81,11 @@ unfolding blockCauses
 length-passed c =
     let n = c .before in
     let bs = n .before .before .before .args .block .now in
-    first-later (lengthCauses (length bs)) (wordsCauses (words bs)) (sym (n .before .length-test .ensures) ∙ passed (n .number .ensures) (c .if1 .left))
+    first-later (lengthCauses (length bs)) (wordsCauses (words bs)) (sym (n .before .length-fault .ensures) ∙ passed (n .number .ensures) (c .if1 .left))
 
-header-is : (c : tie.After-header-test) → let bs = c .before .before .before .before .before .before .args .block .now in
-    first (headerCauses (getD (words bs) 0 0)) ≡ refusal (c .header-test .result)
-header-is c = sym (c .header-test .ensures ∙ ap (λ w. first (headerCauses w)) (c .before .load .ensures))
+header-is : (c : tie.After-header-fault) → let bs = c .before .before .before .before .before .before .args .block .now in
+    first (headerCauses (getD (words bs) 0 0)) ≡ refusal (c .header-fault .result)
+header-is c = sym (c .header-fault .ensures ∙ ap (λ w. first (headerCauses w)) (c .before .load .ensures))
 
 returns-2 : tie.Need-returns-2
 returns-2 c =
@@ -93,7 +93,7 @@ returns-2 c =
     let h = n .before in
     let e = h .before .before in
     let bs = e .before .before .before .before .args .block .now in
-    stops bs (refusal (h .header-test .result)) (n .number2 .ensures) (c .before .if2 .taken)
+    stops bs (refusal (h .header-fault .result)) (n .number2 .ensures) (c .before .if2 .taken)
     (λ k q. length-passed e ∙ header-found (words bs) (header-is h ∙ q)) (c .stopped2 .ensures)
 
 header-quiet : (c : tie.Else2) → let bs = c .before .before .before .before .before .before .before .before .args .block .now in first (headerCauses (getD (words bs) 0 0)) ≡ none
@@ -133,12 +133,12 @@ pub read-spec : {M : Type 1} → statement M
 read-spec =
     tie.close
     (tie.spec
-    length-test-requires
+    length-fault-requires
     number-requires
     stopped-requires
     returns
     load-requires
-    header-test-requires
+    header-fault-requires
     number-requires-2
     stopped-requires-2
     returns-2

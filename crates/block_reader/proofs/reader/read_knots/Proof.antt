@@ -12,18 +12,18 @@ use native.Mathlib.Omega.{arith}
 use lib.IntN.{ℤ}
 use lib.ListN.{length, getD, drop, set}
 use Rattle.rounding.specs.Limits.{knotsMax, gradeMax, gapMax}
-use Rattle.knot.specs.Scan.{gap, Scan}
-use Rattle.knot.specs.RefusalTable.{first}
+use Rattle.scans.specs.Scan.{gap, Scan}
+use Rattle.scans.specs.RefusalTable.{first}
 use Rattle.knot.specs.Machine.{scan, refusal, Numbers}
 use Rattle.following.specs.Machine.{neighbour}
 use Rattle.knot.specs.declared.held.Knot.{Knot}
 use Rattle.knot.specs.declared.table.Refusal.the-variants as Refusals
-use Rattle.knot.proofs.Causes.{quiet, placed}
+use Rattle.scans.proofs.Causes.{quiet, placed}
 use Rattle.knot.proofs.Numbers.{numbers, passed, failed}
-use Rattle.word.specs.Fields.{kind, position, grade, payload}
-use Rattle.word.specs.Bytes.{words}
+use Rattle.block.specs.Fields.{kind, position, grade, payload}
+use Rattle.block.specs.Bytes.{words}
 use Rattle.block.specs.Reading.{knotCauses, knotsCauses, knotsFrom}
-use Rattle.block_reader.proofs.reader.Steps.{knot-found}
+use Rattle.block.proofs.Steps.{knot-found}
 use Rattle.block_reader.proofs.reader.Come.{fault, Come, Coefficients, refuses, none-yet, one-more, from-wrong, from-size-found, taken, ended}
 use Rattle.block_reader.proofs.reader.read_knots.Statement.{statement}
 use Rattle.block_reader.proofs.reader.read_knots.Tie as tie
@@ -85,7 +85,7 @@ module _ (g : After-grade) where
   word-passed =
       let n = g .before .before in
       let l = n .before .before in
-      sym (ap (λ u. first (knotCauses (neighbour (between g .words .last)) u)) (l .load .ensures)) ∙ sym (n .before .knot-test .ensures) ∙ passed (n .number2 .ensures) (g .before .if2 .left)
+      sym (ap (λ u. first (knotCauses (neighbour (between g .words .last)) u)) (l .load .ensures)) ∙ sym (n .before .knot-fault .ensures) ∙ passed (n .number2 .ensures) (g .before .if2 .left)
 
   grade-is : g .grade .result ≡ grade (getD (the-words (between g)) (between g .words .i) 0)
   grade-is = g .grade .ensures ∙ ap grade (g .before .before .before .before .load .ensures)
@@ -99,8 +99,8 @@ module _ (g : After-grade) where
   one-more-knot : between g .words .k < the-count (between g)
   one-more-knot = g .before .before .before .before .before .if1 .left
 
-end-test-requires : tie.Need-end-test-requires Inv-loop μ-loop Inv-words μ-words
-end-test-requires c κs = search needs
+end-fault-requires : tie.Need-end-fault-requires Inv-loop μ-loop Inv-words μ-words
+end-fault-requires c κs = search needs
 
 number-requires : tie.Need-number-requires Inv-loop μ-loop Inv-words μ-words
 number-requires c κs = search needs
@@ -108,8 +108,8 @@ number-requires c κs = search needs
 load-requires : tie.Need-load-requires Inv-loop μ-loop Inv-words μ-words
 load-requires c κs = search needs
 
-knot-test-requires : tie.Need-knot-test-requires Inv-loop μ-loop Inv-words μ-words
-knot-test-requires c κs = search needs
+knot-fault-requires : tie.Need-knot-fault-requires Inv-loop μ-loop Inv-words μ-words
+knot-fault-requires c κs = search needs
 
 number-requires-2 : tie.Need-number-requires-2 Inv-loop μ-loop Inv-words μ-words
 number-requires-2 c κs = search needs
@@ -207,8 +207,8 @@ cast-t31 c = record { fits = omega (arith, c .position .ensures) }
 cast-t32 : tie.Need-cast-t32 Inv-loop μ-loop Inv-words μ-words
 cast-t32 c = record { fits = omega (arith, grade-most (c .before .before .before)) }
 
-size-test-requires : tie.Need-size-test-requires Inv-loop μ-loop Inv-words μ-words
-size-test-requires c κs = (record { room = c .before .before .loop .inv .room; grade = grade-most (word-read c) }, between (word-read c) .words .inv .lastGraded, close c)
+size-cause-requires : tie.Need-size-cause-requires Inv-loop μ-loop Inv-words μ-words
+size-cause-requires c κs = (record { room = c .before .before .loop .inv .room; grade = grade-most (word-read c) }, between (word-read c) .words .inv .lastGraded, close c)
 
 number-requires-4 : tie.Need-number-requires-4 Inv-loop μ-loop Inv-words μ-words
 number-requires-4 c κs = search needs
@@ -238,7 +238,7 @@ words-again c =
     let w = between g in
     taken (the-words w) (the-count w) (w .words .knots) (w .words .last) (w .words .k) (w .words .i) (w .words .inv) (one-more-knot g)
     (p .position .result) (g .grade .result) (p .before .before .loop .coefficients) (word-passed g) (position-is p) (grade-is g) (all-read p) (count-most g) (grade-most g)
-    (sym (c .before .before .size-test .ensures) ∙ passed (c .before .number4 .ensures) (c .if3 .left))
+    (sym (c .before .before .size-cause .ensures) ∙ passed (c .before .number4 .ensures) (c .if3 .left))
 
 -- ---- the first fault, or the end
 
@@ -249,8 +249,8 @@ returns c =
     let come = w .words .inv in
     let all : w .words .k ≡ the-count w = omega (arith, t .if1 .taken, come .within) in
     let rest : the-count w - w .words .k ≡ 0 = omega (arith, all) in
-    let ends : fault (the-words w) (the-count w) ≡ refusal (c .before .end-test .result) =
-    come .faults ∙ ap (λ n. first (knotsCauses (length (the-words w) - 1) n (neighbour (w .words .last)) (drop (w .words .i) (the-words w)))) rest ∙ sym (c .before .end-test .ensures) in
+    let ends : fault (the-words w) (the-count w) ≡ refusal (c .before .end-fault .result) =
+    come .faults ∙ ap (λ n. first (knotsCauses (length (the-words w) - 1) n (neighbour (w .words .last)) (drop (w .words .i) (the-words w)))) rest ∙ sym (c .before .end-fault .ensures) in
     record {
       number = rw ends (c .number .ensures);
       room = come .room;
@@ -267,10 +267,10 @@ returns-2 c =
     let come = w .words .inv in
     let e = failed (n .number2 .result) (n .number2 .ensures) (c .if2 .taken) in
     let one : the-count w - w .words .k ≡ suc (the-count w - (w .words .k + 1)) = omega (arith, l .before .if1 .left) in
-    refuses _ (fault (the-words w) (the-count w)) (refusal (n .before .knot-test .result)) _ (n .number2 .ensures) e
+    refuses _ (fault (the-words w) (the-count w)) (refusal (n .before .knot-fault .result)) _ (n .number2 .ensures) e
     (come .faults ∙ ap (λ m. first (knotsCauses (length (the-words w) - 1) m (neighbour (w .words .last)) (drop (w .words .i) (the-words w)))) one ∙
     knot-found (neighbour (w .words .last)) (length (the-words w) - 1) (the-count w - (w .words .k + 1)) (the-words w) (w .words .i)
-    (sym (ap (λ u. first (knotCauses (neighbour (w .words .last)) u)) (l .load .ensures)) ∙ sym (n .before .knot-test .ensures) ∙ e))
+    (sym (ap (λ u. first (knotCauses (neighbour (w .words .last)) u)) (l .load .ensures)) ∙ sym (n .before .knot-fault .ensures) ∙ e))
     (come .room) (w .before .before .before .pre)
 
 returns-3 : tie.Need-returns-3 Inv-loop μ-loop Inv-words μ-words
@@ -297,10 +297,10 @@ returns-4 c =
     let g = word-read p in
     let w = between g in
     let e = failed (n .number4 .result) (n .number4 .ensures) (c .if3 .taken) in
-    refuses _ (fault (the-words w) (the-count w)) (refusal (n .before .size-test .result)) _ (n .number4 .ensures) e
+    refuses _ (fault (the-words w) (the-count w)) (refusal (n .before .size-cause .result)) _ (n .number4 .ensures) e
     (from-size-found (the-words w) (the-count w) (w .words .knots) (w .words .last) (w .words .k) (w .words .i) (w .words .inv) (one-more-knot g)
     (p .position .result) (g .grade .result) (p .before .before .loop .coefficients) (word-passed g) (position-is p) (grade-is g) (all-read p)
-    (sym (n .before .size-test .ensures) ∙ e))
+    (sym (n .before .size-cause .ensures) ∙ e))
     (w .words .inv .room) (count-most g)
 
 pub read-knots-spec : {M : Type 1} → statement M
@@ -313,10 +313,10 @@ read-knots-spec =
     μ-words
     free-requires
     words-holds
-    end-test-requires
+    end-fault-requires
     number-requires
     load-requires
-    knot-test-requires
+    knot-fault-requires
     number-requires-2
     grade-requires
     cast-m
@@ -335,7 +335,7 @@ read-knots-spec =
     position-requires
     cast-t31
     cast-t32
-    size-test-requires
+    size-cause-requires
     number-requires-4
     mul-knots
     array-set-from-knots

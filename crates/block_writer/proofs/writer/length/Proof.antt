@@ -2,7 +2,8 @@
 use Prim.Native.Nat.{_-_}
 use native.Mathlib.Omega.{arith}
 use Rattle.knot.specs.Machine.{Graded, knotIn, scansIn}
-use Rattle.block_writer.proofs.writer.Stored.{Counted, none-counted, one-counted, all-counted, block-words}
+use Rattle.block.proofs.Written.{block-words}
+use Rattle.block_writer.proofs.writer.Stored.{Counted, none-counted, one-counted, all-counted}
 use Rattle.block_writer.proofs.writer.length.Statement.{statement}
 use Rattle.block_writer.proofs.writer.length.Tie as tie
 

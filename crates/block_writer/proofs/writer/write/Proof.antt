@@ -6,10 +6,11 @@ use native.Mathlib.Omega.{arith}
 use lib.ListN.{length}
 use lib.Seq.{length-sets}
 use Rattle.rounding.specs.Limits.{knotsMax}
-use Rattle.knot.specs.Scan.{Scan}
+use Rattle.scans.specs.Scan.{Scan}
 use Rattle.knot.specs.Machine.{scansIn}
 use Rattle.block.specs.Block.{knotsWords}
-use Rattle.block_writer.proofs.writer.Stored.{one-counted, all-counted, block-words, Knots, no-knot, one-knot, block-stored}
+use Rattle.block.proofs.Written.{block-words}
+use Rattle.block_writer.proofs.writer.Stored.{one-counted, all-counted, Knots, no-knot, one-knot, block-stored}
 use Rattle.block_writer.proofs.writer.write.Statement.{statement}
 use Rattle.block_writer.proofs.writer.write.Tie as tie
 

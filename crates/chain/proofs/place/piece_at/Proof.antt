@@ -6,12 +6,12 @@ use mathlib.Core.Path.{_≡_, ap}
 use Prim.Native.Nat.{ℕ, suc, _+_, _-_, _*_, _/_, _≤_, _<_}
 use native.Mathlib.Omega.{arith}
 use lib.ListN.{length}
-use Rattle.knot.specs.Scan.{Scan}
+use Rattle.scans.specs.Scan.{Scan}
 use Rattle.knot.specs.Machine.{knotIn, scansIn}
-use Rattle.knot.specs.Standing.{Standing}
-use Rattle.chain.specs.Pieces.{mark, pieceAt, Has}
+use Rattle.scans.specs.Standing.{Standing}
+use Rattle.scans.specs.Pieces.{mark, pieceAt, Has}
 use Rattle.chain.proofs.Knots.{count-is, scan-at, has-reached}
-use Rattle.chain.proofs.Pieces.{has-last, has-one}
+use Rattle.scans.proofs.Pieces.{has-last, has-one}
 use Rattle.chain.proofs.place.piece_at.Statement.{statement}
 use Rattle.chain.proofs.place.piece_at.Tie as tie
 

@@ -15,13 +15,13 @@ use Rattle.integer.proofs.Within.{within-more, within-fits, result-is}
 use Rattle.rounding.specs.Water.{total}
 use Rattle.rounding.proofs.Fits.{total-within}
 use Rattle.knot.specs.Machine.{scansIn}
-use Rattle.knot.specs.Scan.{Scan}
-use Rattle.knot.specs.Standing.{Standing}
-use Rattle.chain.specs.Pieces.{pieceOf}
-use Rattle.chain.specs.Queries.{sumFrom, totalOver}
+use Rattle.scans.specs.Scan.{Scan}
+use Rattle.scans.specs.Standing.{Standing}
+use Rattle.scans.specs.Pieces.{pieceOf}
+use Rattle.scans.specs.Queries.{sumFrom, totalOver}
 use Rattle.chain.proofs.Knots.{count-is, between-is, between-admitted}
-use Rattle.chain.proofs.Pieces.{piece-admitted}
-use Rattle.chain.proofs.Sums.{sum-within}
+use Rattle.scans.proofs.Pieces.{piece-admitted}
+use Rattle.scans.proofs.Sums.{sum-within}
 use Rattle.chain.proofs.queries.total.Statement.{statement}
 use Rattle.chain.proofs.queries.total.Tie as tie
 

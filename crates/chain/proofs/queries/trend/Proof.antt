@@ -4,7 +4,7 @@ use mathlib.Core.Path.{_∙_}
 use native.Mathlib.Omega.{arith}
 use Rattle.integer.proofs.Within.{result-is}
 use Rattle.rounding.specs.Trend.{trend}
-use Rattle.chain.specs.Queries.{trendAt}
+use Rattle.scans.specs.Queries.{trendAt}
 use Rattle.chain.proofs.queries.Located.{Located, located}
 use Rattle.chain.proofs.queries.trend.Statement.{statement}
 use Rattle.chain.proofs.queries.trend.Tie as tie

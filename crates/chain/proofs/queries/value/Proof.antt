@@ -4,7 +4,7 @@ use mathlib.Core.Path.{_∙_}
 use native.Mathlib.Omega.{arith}
 use Rattle.integer.proofs.Within.{result-is}
 use Rattle.rounding.specs.Value.{value}
-use Rattle.chain.specs.Queries.{valueAt}
+use Rattle.scans.specs.Queries.{valueAt}
 use Rattle.chain.proofs.queries.Located.{Located, located}
 use Rattle.chain.proofs.queries.value.Statement.{statement}
 use Rattle.chain.proofs.queries.value.Tie as tie

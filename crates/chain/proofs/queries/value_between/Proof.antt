@@ -5,7 +5,7 @@ use Rattle.integer.proofs.Within.{result-is}
 use Rattle.rounding.specs.Piece.{piece}
 use Rattle.rounding.specs.Value.{value}
 use Rattle.knot.specs.Machine.{scan}
-use Rattle.knot.specs.Scan.{leftList, rightList}
+use Rattle.scans.specs.Scan.{leftList, rightList}
 use Rattle.knot.proofs.Lists.{list-length}
 use Rattle.chain.proofs.queries.value_between.Statement.{statement}
 use Rattle.chain.proofs.queries.value_between.Tie as tie

@@ -6,7 +6,7 @@ use mir.Syntax.{w64}
 use mir.Val.{toZ, ofZ}
 use mir.Facts.{toZ-ofZ}
 use Rattle.integer.specs.Sum.{sum as Sum·sum}
-use Rattle.half_sum.proofs.Machine.{term, entry-fits, machine-term, term-fits, sum-fits, machine-sum}
+use Rattle.half_sum.proofs.Terms.{term, entry-fits, machine-term, term-fits, sum-fits, machine-sum}
 use Rattle.half_sum.proofs.sums.weighted.Statement.{statement}
 use Rattle.half_sum.proofs.sums.weighted.Tie as tie
 

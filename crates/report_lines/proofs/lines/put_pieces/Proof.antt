@@ -8,7 +8,7 @@ use native.Mathlib.Omega.{arith}
 use lib.ListN.{length}
 use Rattle.text.specs.Text.{Put}
 use Rattle.text.proofs.Sets.{put-put}
-use Rattle.knot.specs.Scan.{Scan}
+use Rattle.scans.specs.Scan.{Scan}
 use Rattle.reel.specs.Machine.{scans}
 use Rattle.report_lines.specs.Report.{pieceLines}
 use Rattle.report_lines.proofs.Texts.{put-none, row-is}

@@ -4,7 +4,7 @@ use mathlib.Core.Option.{none}
 use mathlib.Core.Path.{_≡_, sym, _∙_, ap}
 use native.Mathlib.Omega.{arith}
 use Rattle.knot.specs.Machine.{refusal}
-use Rattle.knot.specs.RefusalTable.{first}
+use Rattle.scans.specs.RefusalTable.{first}
 use Rattle.block.specs.Reading.{listOf}
 use Rattle.reel.specs.Machine.{scans}
 use Rattle.report_lines.specs.Report.{reportCauses}

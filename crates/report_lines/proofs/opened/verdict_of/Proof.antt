@@ -10,23 +10,23 @@ enum-known-answer c = search needs
 enum-told : tie.Need-enum-told
 enum-told c = search needs
 
-count-test-requires : tie.Need-count-test-requires
-count-test-requires c κs = search needs
+count-cause-requires : tie.Need-count-cause-requires
+count-cause-requires c κs = search needs
 
 enum-known-answer-2 : tie.Need-enum-known-answer-2
 enum-known-answer-2 c = search needs
 
-count-test-requires-2 : tie.Need-count-test-requires-2
-count-test-requires-2 c κs = search needs
+count-cause-requires-2 : tie.Need-count-cause-requires-2
+count-cause-requires-2 c κs = search needs
 
 returns : tie.Need-returns
 returns c = rw (c .before .answer .given .1) refl
 
 returns-2 : tie.Need-returns-2
-returns-2 c = rw (c .before .enum-told .given .1) (c .count-test .ensures)
+returns-2 c = rw (c .before .enum-told .given .1) (c .count-cause .ensures)
 
 returns-3 : tie.Need-returns-3
-returns-3 c = rw (c .before .before .answer2 .given .1) (c .count-test2 .ensures)
+returns-3 c = rw (c .before .before .answer2 .given .1) (c .count-cause2 .ensures)
 
 pub verdict-of-spec : {M : Type 1} → statement M
 verdict-of-spec =
@@ -34,9 +34,9 @@ verdict-of-spec =
     (tie.spec
     enum-known-answer
     enum-told
-    count-test-requires
+    count-cause-requires
     enum-known-answer-2
-    count-test-requires-2
+    count-cause-requires-2
     returns
     returns-2
     returns-3)

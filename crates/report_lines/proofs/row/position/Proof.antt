@@ -9,8 +9,8 @@ use mir.Syntax.{w64}
 use mir.Val.{toZ, ofZ}
 use mir.Facts.{toZ-pos}
 use Rattle.rounding.specs.Limits.{positionMax}
-use Rattle.knot.specs.Scan.{at}
-use Rattle.reel.specs.Calls.{number, positionOf}
+use Rattle.scans.specs.Scan.{at}
+use Rattle.calls.specs.Calls.{number, positionOf}
 use Rattle.reel.specs.Machine.{scans, replyOf}
 use Rattle.report_lines.proofs.row.position.Statement.{statement}
 use Rattle.report_lines.proofs.row.position.Tie as tie

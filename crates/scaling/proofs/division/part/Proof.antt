@@ -7,7 +7,7 @@ use native.Mathlib.Omega.{arith}
 use mir.Syntax.{w64}
 use mir.Val.{Fits}
 use mir.Facts.{fits-le, fits-lit}
-use Rattle.scaling.specs.Divisor.{Fraction}
+use Rattle.scaling.specs.Machine.{Fraction}
 use Rattle.scaling.specs.declared.division.Divisor.{Divisor}
 use Rattle.scaling.proofs.division.Parts.{by-reciprocal, in-parts, part-below}
 use Rattle.scaling.proofs.division.part.Statement.{statement}

@@ -49,7 +49,7 @@ returns : tie.Need-returns Inv-loop μ-loop
 returns c =
     let text = c .before .before .args .text .now in
     let e : c .before .loop .i ≡ length text = omega arith in
-    record { next = omega arith; left = rw (e, drop-length text) at (c .before .loop .inv .2) }
+    record { next = omega arith; holds = rw (e, drop-length text) at (c .before .loop .inv .2) }
 
 pub put-bytes-spec : {M : Type 1} → statement M
 put-bytes-spec =

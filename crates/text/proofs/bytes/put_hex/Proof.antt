@@ -61,7 +61,7 @@ returns : tie.Need-returns Inv-loop μ-loop
 returns c =
     let bytes = c .before .before .before .before .args .bytes .now in
     let e : c .before .loop .i ≡ length bytes = omega arith in
-    (record { next = omega (arith, hex-length bytes); left = rw (e, drop-length bytes) at (c .before .loop .inv .3) }, omega arith)
+    (record { next = omega (arith, hex-length bytes); holds = rw (e, drop-length bytes) at (c .before .loop .inv .3) }, omega arith)
 
 pub put-hex-spec : {M : Type 1} → statement M
 put-hex-spec =

@@ -23,6 +23,43 @@ use Rattle.water.proofs.integral.Recurrence.{sums-by-table}
 use Rattle.water.proofs.integral.total.Statement.{statement}
 use Rattle.water.proofs.integral.total.Tie as tie
 
+-- where the function starts, and the piece
+abbrev start : tie.After-weighted2 → tie.Start
+start c = c .before .before .before .before .before .before .before .before .before
+
+abbrev P : tie.After-weighted2 → Piece
+P c = piece (start c .args .h) (start c .args .left .now) (start c .args .right .now)
+
+-- the two ends, and h times their sum
+module _ (c : tie.After-weighted2) where
+  -- by one test of the table
+  sides-are : (c .before .before .before .weighted .result ≡ sum (m (P c)) (λ j. p (P c) j *ℤ pos (Water·c (m (P c)) (n (P c)) j))) ×
+      (c .weighted2 .result ≡ sum (n (P c)) (λ j. rightWeights (q (P c)) j *ℤ pos (Water·c (n (P c)) (m (P c)) j)))
+  unfolding Water·c
+  sides-are =
+      sums-by-table _ refl refl (m (P c)) (n (P c)) (omega arith) (omega arith)
+      (c .before .before .before .before .before .before .before .before .weights .result)
+      (c .before .before .before .before .before .before .before .right-weights .result)
+      (λ j h. c .before .before .before .before .before .before .before .before .weights .ensures .entry j (omega arith))
+      (λ j h. c .before .before .before .before .before .before .before .right-weights .ensures .entry j (omega arith))
+      (c .before .before .before .weighted .ensures) (c .weighted2 .ensures)
+
+  sum-is : toZ w64 (ofZ w64 (c .before .before .before .weighted .result)) +ℤ toZ w64 (ofZ w64 (c .weighted2 .result)) ≡ weightedSum (m (P c)) (n (P c)) (p (P c)) (q (P c))
+  unfolding weightedSum
+  sum-is = ap₂ (λ x y. x +ℤ y) (result-is (c .before .before .before .weighted .result) (c .before .before .before .weighted .ok) ∙ sides-are .0) (result-is (c .weighted2 .result) (c .weighted2 .ok) ∙ sides-are .1)
+
+  sum-fits : SFits w64 (weightedSum (m (P c)) (n (P c)) (p (P c)) (q (P c)))
+  sum-fits = within-fits w64 _ (lit< tt) (weightedSum-within (P c) (start c .pre))
+
+  total-is : toZ w64 (start c .args .h) *ℤ toZ w64 (ofZ w64 (toZ w64 (ofZ w64 (c .before .before .before .weighted .result)) +ℤ toZ w64 (ofZ w64 (c .weighted2 .result)))) ≡ total (P c)
+  unfolding total
+  total-is = ap₂ (λ x y. x *ℤ y) (toZ-pos w64 {n = start c .args .h} (omega arith)) (ap (λ z. toZ w64 (ofZ w64 z)) sum-is ∙ toZ-ofZ sum-fits)
+
+  total-fits : SFits w64 (total (P c))
+  total-fits = within-fits w64 (total (P c)) (lit< tt) (total-within (P c) (start c .pre))
+
+-- ---- the needs
+
 sub-m : tie.Need-sub-m
 sub-m c = search needs
 
@@ -108,41 +145,6 @@ weighted-requires-2 c κs =
       part-entries _ (512 - row) row refl,
       more-weights (lit≤ tt) (listed-weights (c .before .before .before .before .before .before .right-weights .ensures) (λ j. right-sized (b .args .h) (b .args .right .now) j (b .pre .rightSize))),
     )
-
--- where the function starts, and the piece
-abbrev start : tie.After-weighted2 → tie.Start
-start c = c .before .before .before .before .before .before .before .before .before
-
-abbrev P : tie.After-weighted2 → Piece
-P c = piece (start c .args .h) (start c .args .left .now) (start c .args .right .now)
-
--- the two ends, and h times their sum
-module _ (c : tie.After-weighted2) where
-  -- by one test of the table
-  sides-are : (c .before .before .before .weighted .result ≡ sum (m (P c)) (λ j. p (P c) j *ℤ pos (Water·c (m (P c)) (n (P c)) j))) ×
-      (c .weighted2 .result ≡ sum (n (P c)) (λ j. rightWeights (q (P c)) j *ℤ pos (Water·c (n (P c)) (m (P c)) j)))
-  unfolding Water·c
-  sides-are =
-      sums-by-table _ refl refl (m (P c)) (n (P c)) (omega arith) (omega arith)
-      (c .before .before .before .before .before .before .before .before .weights .result)
-      (c .before .before .before .before .before .before .before .right-weights .result)
-      (λ j h. c .before .before .before .before .before .before .before .before .weights .ensures .entry j (omega arith))
-      (λ j h. c .before .before .before .before .before .before .before .right-weights .ensures .entry j (omega arith))
-      (c .before .before .before .weighted .ensures) (c .weighted2 .ensures)
-
-  sum-is : toZ w64 (ofZ w64 (c .before .before .before .weighted .result)) +ℤ toZ w64 (ofZ w64 (c .weighted2 .result)) ≡ weightedSum (m (P c)) (n (P c)) (p (P c)) (q (P c))
-  unfolding weightedSum
-  sum-is = ap₂ (λ x y. x +ℤ y) (result-is (c .before .before .before .weighted .result) (c .before .before .before .weighted .ok) ∙ sides-are .0) (result-is (c .weighted2 .result) (c .weighted2 .ok) ∙ sides-are .1)
-
-  sum-fits : SFits w64 (weightedSum (m (P c)) (n (P c)) (p (P c)) (q (P c)))
-  sum-fits = within-fits w64 _ (lit< tt) (weightedSum-within (P c) (start c .pre))
-
-  total-is : toZ w64 (start c .args .h) *ℤ toZ w64 (ofZ w64 (toZ w64 (ofZ w64 (c .before .before .before .weighted .result)) +ℤ toZ w64 (ofZ w64 (c .weighted2 .result)))) ≡ total (P c)
-  unfolding total
-  total-is = ap₂ (λ x y. x *ℤ y) (toZ-pos w64 {n = start c .args .h} (omega arith)) (ap (λ z. toZ w64 (ofZ w64 z)) sum-is ∙ toZ-ofZ sum-fits)
-
-  total-fits : SFits w64 (total (P c))
-  total-fits = within-fits w64 (total (P c)) (lit< tt) (total-within (P c) (start c .pre))
 
 add-result : tie.Need-add-result
 add-result c = rw (sum-is c) (sum-fits c)

@@ -6,8 +6,8 @@ use native.Mathlib.Omega.{arith}
 use lib.Bits.{bitOr}
 use lib.ListN.{getD, List·getD-eq-default}
 use mir.Facts.{fits-8-32}
-use Rattle.word.specs.Bytes.{joined, words}
-use Rattle.word.proofs.Bytes.{length-words, word-at}
+use Rattle.block.specs.Bytes.{joined, words}
+use Rattle.block.proofs.Bytes.{length-words, word-at}
 use Rattle.word.proofs.Shifts.{put}
 use Rattle.word.proofs.buffer.load.Statement.{statement}
 use Rattle.word.proofs.buffer.load.Tie as tie

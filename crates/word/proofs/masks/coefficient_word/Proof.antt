@@ -5,8 +5,8 @@ use native.Mathlib.Omega.{arith}
 use lib.IntN.{ℤ, pos, negsuc}
 use mir.Syntax.{w32}
 use mir.Val.{SFits, ofZ}
-use Rattle.word.specs.Fields.{twosComplement}
-use Rattle.word.proofs.Fields.{twos-below}
+use Rattle.block.specs.Fields.{twosComplement}
+use Rattle.block.proofs.Fields.{twos-below}
 use Rattle.word.proofs.Shifts.{put, masked}
 use Rattle.word.proofs.masks.coefficient_word.Statement.{statement}
 use Rattle.word.proofs.masks.coefficient_word.Tie as tie

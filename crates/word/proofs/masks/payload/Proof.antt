@@ -9,7 +9,7 @@ use lib.IntN.{pos, _-ℤ_}
 use mir.Syntax.{w32}
 use mir.Val.{SFits}
 use mir.Facts.{toZ-ofZ}
-use Rattle.word.specs.Fields.{rest}
+use Rattle.block.specs.Fields.{rest}
 use Rattle.word.proofs.Shifts.{masked}
 use Rattle.word.proofs.masks.payload.Statement.{statement}
 use Rattle.word.proofs.masks.payload.Tie as tie

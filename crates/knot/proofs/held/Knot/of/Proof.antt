@@ -9,7 +9,7 @@ use lib.Seq.{take-suc, take-suc-set, take-length}
 use mir.Syntax.{w32}
 use mir.Val.{toZ, ofZ}
 use mir.Facts.{toZ-ofZ}
-use Rattle.knot.specs.Scan.{scanOf}
+use Rattle.scans.specs.Scan.{scanOf}
 use Rattle.knot.proofs.held.Knot.of.Statement.{statement}
 use Rattle.knot.proofs.held.Knot.of.Tie as tie
 

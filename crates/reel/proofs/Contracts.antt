@@ -1,0 +1,61 @@
+-- The contract of each call of a sequence is `Does` of that call: what its function requires is that the reel is held, and what it ensures is
+-- the promise. A contract that says less is refused here.
+use contract.Lifetimes.{Lfts}
+use denote.Ref.{RefT, now}
+use mathlib.Core.List.{List, []}
+use mathlib.Core.Path.{_≡_}
+use Prim.Native.Nat.{ℕ}
+use lib.IntN.{ℤ}
+use Rattle.calls.specs.Calls.{clear, append, correct, read, write, value, trend, total}
+use Rattle.reel.specs.Machine.{scans, Held, Does}
+use Rattle.reel.specs.declared.held.Reel.{Reel}
+use Rattle.reel.specs.declared.answer.Handed.{Handed}
+use Rattle.reel.proofs.held.Reel.empty.Reads as empty-reads
+use Rattle.reel.proofs.held.Reel.clear.Reads as clear-reads
+use Rattle.reel.proofs.held.Reel.append.Reads as append-reads
+use Rattle.reel.proofs.held.Reel.correct.Reads as correct-reads
+use Rattle.reel.proofs.held.Reel.read.Reads as read-reads
+use Rattle.reel.proofs.held.Reel.write.Reads as write-reads
+use Rattle.reel.proofs.held.Reel.value.Reads as value-reads
+use Rattle.reel.proofs.held.Reel.trend.Reads as trend-reads
+use Rattle.reel.proofs.held.Reel.total.Reads as total-reads
+
+-- what a sequence begins with
+pub empty-is : (begin : Reel) → empty-reads.Post tt tt begin tt → (Held begin) × (scans begin ≡ [])
+empty-is begin post = post .0
+
+module _ (given : Reel) (handed : Handed) (held : Held given) where
+  pub clear-does : (clear-reads.Pre tt (given, tt) → clear-reads.Post tt (given, tt) handed (given, tt)) → Does clear given (handed .answer) (handed .reel) []
+  clear-does contract = contract held
+
+  pub append-does : (κs : Lfts 1) (x : ℕ) (C : RefT (List ℤ)) →
+      (append-reads.Pre κs (given, (x, (C, tt))) → append-reads.Post κs (given, (x, (C, tt))) handed (given, (x, (C, tt)))) →
+      Does (append x (now C)) given (handed .answer) (handed .reel) []
+  append-does κs x C contract = contract held
+
+  pub correct-does : (κs : Lfts 1) (k : ℕ) (C : RefT (List ℤ)) →
+      (correct-reads.Pre κs (given, (k, (C, tt))) → correct-reads.Post κs (given, (k, (C, tt))) handed (given, (k, (C, tt)))) →
+      Does (correct k (now C)) given (handed .answer) (handed .reel) []
+  correct-does κs k C contract = contract held
+
+  pub read-does : (κs : Lfts 1) (bytes : RefT (List ℕ)) →
+      (read-reads.Pre κs (given, (bytes, tt)) → read-reads.Post κs (given, (bytes, tt)) handed (given, (bytes, tt))) →
+      Does (read (now bytes)) given (handed .answer) (handed .reel) []
+  read-does κs bytes contract = contract held
+
+  pub write-does : (κs : Lfts 1) (out after : RefT (List ℕ)) →
+      (write-reads.Pre κs (given, (out, tt)) → write-reads.Post κs (given, (out, tt)) handed (given, (after, tt))) →
+      Does (write (now out)) given (handed .answer) (handed .reel) (now after)
+  write-does κs out after contract = contract held
+
+  pub value-does : (x : ℕ) → (value-reads.Pre tt (given, (x, tt)) → value-reads.Post tt (given, (x, tt)) handed (given, (x, tt))) →
+      Does (value x) given (handed .answer) (handed .reel) []
+  value-does x contract = contract held
+
+  pub trend-does : (x : ℕ) → (trend-reads.Pre tt (given, (x, tt)) → trend-reads.Post tt (given, (x, tt)) handed (given, (x, tt))) →
+      Does (trend x) given (handed .answer) (handed .reel) []
+  trend-does x contract = contract held
+
+  pub total-does : (i j : ℕ) → (total-reads.Pre tt (given, (i, (j, tt))) → total-reads.Post tt (given, (i, (j, tt))) handed (given, (i, (j, tt)))) →
+      Does (total i j) given (handed .answer) (handed .reel) []
+  total-does i j contract = contract held

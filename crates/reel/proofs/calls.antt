@@ -1,2 +1,0 @@
-mod Promises
-mod Tested

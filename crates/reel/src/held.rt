@@ -1,0 +1,254 @@
+// The held reel: an empty one, the limits, and its calls. Each call takes the reel and hands back the reel it leaves.
+ghost use mathlib.Core.List.{[]};
+ghost use mathlib.Core.Path.{_≡_};
+ghost use lib.ListN.{length};
+ghost use Rattle.scans.specs.RefusalTable.{first as RefusalTable·first};
+ghost use Rattle.knot.specs.Machine.{refusal};
+ghost use Rattle.calls.specs.Calls.{causes, append as Calls·append, clear as Calls·clear, correct as Calls·correct, positionOf, read as Calls·read, total as Calls·total, trend as Calls·trend, value as Calls·value, write as Calls·write};
+ghost use Rattle.reel.specs.Machine.{AreTheLimits, Does, Held, replyOf, scans};
+ghost use Rattle.reel.specs.declared.answer.Answer.the-variants as Answers;
+ghost use Rattle.calls.specs.Same.{same as Same·same};
+use crate::answer::Answer;
+use crate::answer::Handed;
+use crate::index::before;
+use crate::index::inside;
+use first_cause::append_cause;
+use first_cause::correct_cause;
+use first_cause::query_cause;
+use first_cause::range_cause;
+use knot::COEFFICIENTS_MAX;
+use knot::KNOTS_MAX;
+use knot::Knot;
+use knot::Refusal;
+use knot::Verdict;
+
+// The first `count` knots are the list; the others are free.
+pub struct Reel {
+    knots: [Knot; KNOTS_MAX],
+    count: usize,
+}
+
+impl Reel {
+    pub const KNOTS_MAX: usize = KNOTS_MAX;
+
+    pub const GAP_MAX: u64 = knot::GAP_MAX;
+
+    pub const GRADE_MAX: usize = knot::GRADE_MAX;
+
+    pub const SIZE_MAX: u64 = knot::SIZE_MAX;
+
+    // The reel of no knots.
+    pub fn empty() -> Self
+        ensures { λ r. ⌜ (Held r) × (scans r ≡ []) ⌝ }
+        ensures { λ r. do ⌜ AreTheLimits (← ⟦Reel::KNOTS_MAX⟧ .entry) (← ⟦Reel::GAP_MAX⟧ .entry) (← ⟦Reel::GRADE_MAX⟧ .entry) (← ⟦Reel::SIZE_MAX⟧ .entry) ⌝ }
+    {
+        let coefficients = [0i32; COEFFICIENTS_MAX];
+        let free = Knot {
+            position: 0,
+            grade: 0,
+            coefficients,
+        };
+        let knots = [free; KNOTS_MAX];
+        Self { knots, count: 0 }
+    }
+
+    // A refusal hands back the reel as it was.
+    fn refused(self, cause: Refusal) -> Handed
+        ensures { λ r. ⌜ (r .reel ≡ self) × (r .answer ≡ Answers.Refused cause) ⌝ }
+    {
+        Handed {
+            reel: self,
+            answer: Answer::Refused(cause),
+        }
+    }
+
+    // The empty list.
+    pub fn clear(mut self) -> Handed
+        requires { ⌜ Held self ⌝ }
+        ensures { λ r. ⌜ Does Calls·clear self (r .answer) (r .reel) [] ⌝ }
+    {
+        self.count = 0;
+        Handed {
+            reel: self,
+            answer: Answer::Accepted,
+        }
+    }
+
+    // The list with one knot more at its end.
+    pub fn append(mut self, position: u32, coefficients: &[i32]) -> Handed
+        requires { ⌜ Held self ⌝ }
+        ensures { λ r. ⌜ Does (Calls·append position (now (coefficients .entry))) self (r .answer) (r .reel) [] ⌝ }
+    {
+        let count = self.count;
+        let last = before(count);
+        let held = self.knots[last];
+        let found = append_cause(count, held, position, coefficients);
+        let verdict = found.verdict;
+        if let Verdict::Refused(cause) = verdict {
+            return self.refused(cause);
+        }
+        let new = found.knot;
+        self.knots[count] = new;
+        self.count = count + 1;
+        Handed {
+            reel: self,
+            answer: Answer::Accepted,
+        }
+    }
+
+    // Knot k with other coefficients.
+    pub fn correct(mut self, k: u32, coefficients: &[i32]) -> Handed
+        requires { ⌜ Held self ⌝ }
+        ensures { λ r. ⌜ Does (Calls·correct k (now (coefficients .entry))) self (r .answer) (r .reel) [] ⌝ }
+    {
+        let at = inside(k as usize);
+        let old = self.knots[at];
+        let left = before(at);
+        let previous = self.knots[left];
+        let right = inside(at + 1);
+        let following = self.knots[right];
+        let found = correct_cause(
+            k as usize,
+            self.count,
+            previous,
+            old,
+            following,
+            coefficients,
+        );
+        let verdict = found.verdict;
+        if let Verdict::Refused(cause) = verdict {
+            return self.refused(cause);
+        }
+        let new = found.knot;
+        self.knots[at] = new;
+        Handed {
+            reel: self,
+            answer: Answer::Accepted,
+        }
+    }
+
+    // The list of a block; or the number of its first fault.
+    pub fn read(mut self, bytes: &[u8]) -> Handed
+        requires { ⌜ Held self ⌝ }
+        ensures { λ r. ⌜ Does (Calls·read (now (bytes .entry))) self (r .answer) (r .reel) [] ⌝ }
+    {
+        let contents = block_reader::read(bytes);
+        let refusal = contents.refusal;
+        if refusal != 0 {
+            return self.refused(Refusal::numbered(refusal));
+        }
+        let knots = contents.knots;
+        self.knots = knots;
+        self.count = contents.count;
+        Handed {
+            reel: self,
+            answer: Answer::Accepted,
+        }
+    }
+
+    // The block of the list into a lent output: the number of its bytes; 10 where the output is shorter, which then stays as it was.
+    pub fn write(self, out: &mut [u8]) -> Handed
+        requires { ⌜ Held self ⌝ }
+        ensures { λ r. ⌜ Does (Calls·write (now (out .entry))) self (r .answer) (r .reel) (now (out .exit)) ⌝ }
+    {
+        let knots = self.knots;
+        let count = self.count;
+        if out.len() < block_writer::length(knots, count) {
+            return self.refused(Refusal::Output);
+        }
+        let size = block_writer::write(knots, count, out);
+        Handed {
+            reel: self,
+            answer: Answer::Number(size as i64),
+        }
+    }
+
+    // The verdict on a query position, between the first knot and the last.
+    fn query_verdict(self, x: u32) -> Verdict
+        requires { ⌜ Held self ⌝ }
+        ensures { λ v. ⌜ refusal v ≡ RefusalTable·first (causes (Calls·value x) (scans self)) ⌝ }
+    {
+        let count = self.count;
+        let end = before(count);
+        let first = self.knots[0];
+        let last = self.knots[end];
+        query_cause(count, first.position, last.position, x)
+    }
+
+    // The value at query position x, in 1/65,536 count.
+    pub fn value(self, x: u32) -> Handed
+        requires { ⌜ Held self ⌝ }
+        ensures { λ r. ⌜ Does (Calls·value x) self (r .answer) (r .reel) [] ⌝ }
+    {
+        if let Verdict::Refused(cause) = self.query_verdict(x) {
+            return self.refused(cause);
+        }
+        let knots = self.knots;
+        Handed {
+            reel: self,
+            answer: Answer::Number(chain::value(knots, self.count, x)),
+        }
+    }
+
+    // The trend there, in 1/65,536 count per step. It refuses what value refuses.
+    pub fn trend(self, x: u32) -> Handed
+        requires { ⌜ Held self ⌝ }
+        ensures { λ r. ⌜ Does (Calls·trend x) self (r .answer) (r .reel) [] ⌝ }
+    {
+        if let Verdict::Refused(cause) = self.query_verdict(x) {
+            return self.refused(cause);
+        }
+        let knots = self.knots;
+        Handed {
+            reel: self,
+            answer: Answer::Number(chain::trend(knots, self.count, x)),
+        }
+    }
+
+    // The total of pieces i to j − 1, in 1/720,720 of a count × step: 8, then 9. The reel's is from 0 to the last knot.
+    pub fn total(self, i: u32, j: u32) -> Handed
+        requires { ⌜ Held self ⌝ }
+        ensures { λ r. ⌜ Does (Calls·total i j) self (r .answer) (r .reel) [] ⌝ }
+    {
+        let count = self.count;
+        if let Verdict::Refused(cause) = range_cause(count, i, j) {
+            return self.refused(cause);
+        }
+        let knots = self.knots;
+        Handed {
+            reel: self,
+            answer: Answer::Number(chain::total(knots, count, i as usize, j as usize)),
+        }
+    }
+
+    // Whether two reels agree in their knot counts, positions and every C_0.
+    pub fn same(self, other: Reel) -> bool
+        requires { ⌜ (Held self) × (Held other) ⌝ }
+        ensures { λ b. ⌜ b ≡ Same·same (scans self) (scans other) ⌝ }
+    {
+        let knots = self.knots;
+        let others = other.knots;
+        comparison::same(knots, self.count, others, other.count)
+    }
+
+    // The number of knots.
+    pub fn count(self) -> u32
+        requires { ⌜ Held self ⌝ }
+        ensures { λ n. ⌜ n ≡ length (scans self) ⌝ }
+    {
+        self.count as u32
+    }
+
+    // The position of knot k; 9 where there is no knot k.
+    pub fn position(self, k: u32) -> Answer
+        requires { ⌜ Held self ⌝ }
+        ensures { λ r. ⌜ replyOf r ≡ positionOf k (scans self) ⌝ }
+    {
+        let at = k as usize;
+        if self.count <= at {
+            return Answer::Refused(Refusal::Index);
+        }
+        let knot = self.knots[at];
+        Answer::Number(knot.position as i64)
+    }
+}

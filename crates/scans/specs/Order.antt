@@ -1,0 +1,29 @@
+-- Document 01, "Refusal table", "Order": the causes of append, correct and the queries, in the order in which they are
+-- asked. Those of read are `blockCauses` of block/specs/Reading.antt.
+use mathlib.Core.List.{List, [], _∷_, _++_}
+use mathlib.Core.Option.{Option}
+use Prim.Native.Nat.{ℕ, _+_}
+use lib.IntN.{ℤ}
+use lib.ListN.{length}
+use Rattle.scans.specs.Scan.{Scan, scanOf}
+use Rattle.scans.specs.SizeRule.{sizeRule}
+use Rattle.scans.specs.RefusalTable.{Cause, tooMany, badSize, outside, tooFew, noKnot, noRange}
+use Rattle.scans.specs.RefusalTable.{listCauses, positionCauses, sizeCauses}
+
+-- append, with so many knots held and this last one: 2, 3, 4, 5, 6
+abbrev pub appendCauses : ℕ → Option Scan → ℕ → List ℤ → List Cause
+appendCauses count last x C =
+    tooMany (count + 1) ∷ listCauses (length C) ++ positionCauses last x ++ sizeCauses last (scanOf x C)
+
+-- correct of knot k of so many, which lies at x between these neighbours: 9, 3, 6
+abbrev pub correctCauses : ℕ → ℕ → Option Scan → ℕ → Option Scan → List ℤ → List Cause
+correctCauses k count left x right C =
+    noKnot k count ∷ listCauses (length C) ++ badSize (sizeRule left (scanOf x C) right) ∷ []
+
+-- value and trend at x, with the places of the first and the last knot: 8, 7
+abbrev pub queryCauses : ℕ → ℕ → ℕ → ℕ → List Cause
+queryCauses count from to x = tooFew count ∷ outside from to x ∷ []
+
+-- total from knot i to knot j: 8, 9
+abbrev pub rangeCauses : ℕ → ℕ → ℕ → List Cause
+rangeCauses count i j = tooFew count ∷ noRange i j count ∷ []
