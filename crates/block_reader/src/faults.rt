@@ -73,7 +73,8 @@ pub fn knot_fault(last: Neighbour, word: u32) -> Verdict
 
 // Of the words from k on, where the end word is due: it is the last one, and counts the words before it.
 pub fn end_fault(block: &[u8], k: usize) -> Verdict
-    ensures { λ v. ⌜ refusal v ≡ first (endCauses (length (words (now (block .entry))) - 1) (drop k (words (now (block .entry))))) ⌝ }
+    ensures { λ v. ⌜ refusal v ≡ first (endCauses (length (words (now (block .entry))) - 1)
+        (drop k (words (now (block .entry))))) ⌝ }
 {
     let count = block.len() / 4;
     if count == 0 {

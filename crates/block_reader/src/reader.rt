@@ -57,7 +57,9 @@ fn stopped(refusal: u32) -> Contents
 // The knots of a block, from its second word on.
 fn read_knots(block: &[u8], count: usize) -> Contents
     requires { ⌜ count ≤ knotsMax ⌝ }
-    ensures { λ r. ⌜ Reads r (first (knotsCauses (length (words (now (block .entry))) - 1) count none (drop 1 (words (now (block .entry)))))) (knotsFrom count (drop 1 (words (now (block .entry))))) ⌝ }
+    ensures { λ r. ⌜ Reads r (first (knotsCauses (length (words (now (block .entry))) - 1) count none
+        (drop 1 (words (now (block .entry))))))
+        (knotsFrom count (drop 1 (words (now (block .entry))))) ⌝ }
 {
     let none = free();
     let mut knots = [none; KNOTS_MAX];

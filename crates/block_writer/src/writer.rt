@@ -33,7 +33,8 @@ pub fn length(knots: [Knot; KNOTS_MAX], count: usize) -> usize
 // Puts a knot's words in the places from i on, and gives the place after them.
 fn write_knot(knot: Knot, out: &mut [u8], i: usize) -> usize
     requires { ⌜ (Graded knot) × (4 * (i + (knot .grade + 2)) ≤ ListN·length (now out)) ⌝ }
-    ensures { λ r. ⌜ (r ≡ i + (knot .grade + 2)) × (now (out .exit) ≡ sets (now (out .entry)) (4 * i) (bytes (scanWords (scan knot)))) ⌝ }
+    ensures { λ r. ⌜ (r ≡ i + (knot .grade + 2))
+        × (now (out .exit) ≡ sets (now (out .entry)) (4 * i) (bytes (scanWords (scan knot)))) ⌝ }
 {
     let c = knot.coefficients;
     let m = knot.grade as usize;
@@ -49,7 +50,8 @@ fn write_knot(knot: Knot, out: &mut [u8], i: usize) -> usize
 // Puts that block in the first bytes, and gives their number.
 pub fn write(knots: [Knot; KNOTS_MAX], count: usize, out: &mut [u8]) -> usize
     requires { ⌜ (Filled knots count) × (ListN·length (block (scansIn count knots)) ≤ ListN·length (now out)) ⌝ }
-    ensures { λ r. ⌜ (r ≡ ListN·length (block (scansIn count knots))) × (now (out .exit) ≡ written (scansIn count knots) (now (out .entry))) ⌝ }
+    ensures { λ r. ⌜ (r ≡ ListN·length (block (scansIn count knots)))
+        × (now (out .exit) ≡ written (scansIn count knots) (now (out .entry))) ⌝ }
 {
     store(out, 0, header_word(count as u8, EDITION));
     let mut i = 1;

@@ -14,9 +14,6 @@ use Rattle.block.proofs.RoundTrips.{written-accepted, written-list, accepted-wr
 use Rattle.calls.specs.Calls.{accepted, number, read, write, replyTo, standingAfter, output}
 use Rattle.calls.proofs.Effects.{acceptance-replies, acceptance-leaves, acceptance-writes, accepted-quiet, number-quiet}
 
-same-size : {m n : ℕ} → number (pos m) ≡ number (pos n) → n ≡ m
-same-size e = cc
-
 -- an accepted write: its number is the block's length, and the block stands in front of the output
 record Wrote (list : List Scan) (out : List ℕ) (n : ℕ) : Type 0 where
   size : n ≡ length (block list)
@@ -25,7 +22,7 @@ record Wrote (list : List Scan) (out : List ℕ) (n : ℕ) : Type 0 where
 wrote : (list : List Scan) (out : List ℕ) (n : ℕ) → replyTo (write out) list ≡ number (pos n) → Wrote list out n
 wrote list out n e =
     let a = number-quiet (write out) list e in
-    let size = same-size (a .1) in
+    let size : n ≡ length (block list) = cc (a .1) in
     record { size = size; front = ap₂ take size (acceptance-writes (write out) list (a .0)) ∙ take-append-seam (block list) (drop (length (block list)) out) }
 
 -- every list that stands, every output: the bytes that a write counts are a block that every read accepts, and then that list stands

@@ -7,8 +7,8 @@ use knot::KNOTS_MAX;
 use knot::Knot;
 use rounding::POSITION_UNIT;
 
-// Bisection: the first piece that ends after x, or else the last. Piece `low` starts at x or before it, and piece `high`, where there is
-// one, after it.
+// Bisection: the first piece that ends after x, or else the last. Piece `low` starts at x or before it, and piece
+// `high`, where there is one, after it.
 pub fn piece_at(knots: [Knot; KNOTS_MAX], count: usize, x: u32) -> usize
     requires { ⌜ Reached knots count x ⌝ }
     ensures { λ k. ⌜ k ≡ pieceAt (scansIn count knots) x ⌝ }

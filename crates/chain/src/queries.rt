@@ -1,6 +1,7 @@
 // Value, trend and total of the first `count` knots of an array.
 ghost use mathlib.Core.Path.{_≡_};
 ghost use Prim.Native.Nat.{_*_, _≤_, _<_};
+ghost use Rattle.rounding.specs.Piece.{positionUnit};
 ghost use Rattle.rounding.specs.Size.{Admitted};
 ghost use Rattle.rounding.specs.Value.{value as Value·value};
 ghost use Rattle.rounding.specs.Trend.{trend as Trend·trend};
@@ -17,7 +18,8 @@ use rounding::POSITION_UNIT;
 
 // The value at distance r from the first of two knots.
 fn value_between(left: Knot, right: Knot, r: u64) -> i64
-    requires { ⌜ (Graded left) × (Graded right) × (Admitted (between (scan left) (scan right))) × (r ≤ 256 * between (scan left) (scan right) .h) ⌝ }
+    requires { ⌜ (Graded left) × (Graded right) × (Admitted (between (scan left) (scan right)))
+        × (r ≤ positionUnit * between (scan left) (scan right) .h) ⌝ }
     ensures { λ v. ⌜ v ≡ Value·value (between (scan left) (scan right)) r ⌝ }
 {
     let p = left.coefficients;
@@ -34,7 +36,8 @@ fn value_between(left: Knot, right: Knot, r: u64) -> i64
 
 // The trend there.
 fn trend_between(left: Knot, right: Knot, r: u64) -> i64
-    requires { ⌜ (Graded left) × (Graded right) × (Admitted (between (scan left) (scan right))) × (r ≤ 256 * between (scan left) (scan right) .h) ⌝ }
+    requires { ⌜ (Graded left) × (Graded right) × (Admitted (between (scan left) (scan right)))
+        × (r ≤ positionUnit * between (scan left) (scan right) .h) ⌝ }
     ensures { λ z. ⌜ z ≡ Trend·trend (between (scan left) (scan right)) r ⌝ }
 {
     let p = left.coefficients;

@@ -27,7 +27,8 @@ pub struct Found {
 // Append after `held`, the last of so many knots: 2, 3, 4, 5, 6. With no knot held any may stand for it.
 pub fn append_cause(count: usize, held: Knot, position: u32, coefficients: &[i32]) -> Found
     requires { ⌜ (ltb 0 count ≡ true → Graded held) ⌝ }
-    ensures { λ r. ⌜ Finds r (appendCauses count (beside (ltb 0 count) held) position (now (coefficients .entry))) (scanOf position (now (coefficients .entry))) ⌝ }
+    ensures { λ r. ⌜ Finds r (appendCauses count (beside (ltb 0 count) held) position (now (coefficients .entry)))
+        (scanOf position (now (coefficients .entry))) ⌝ }
 {
     if KNOTS_MAX <= count {
         return Found {
@@ -58,7 +59,8 @@ pub fn append_cause(count: usize, held: Knot, position: u32, coefficients: &[i32
     }
 }
 
-// Correct of knot k of so many: 9, 3, then the size rule at each gap beside the knot. Where it has no neighbour any knot may stand for it.
+// Correct of knot k of so many: 9, 3, then the size rule at each gap beside the knot. Where it has no neighbour any
+// knot may stand for it.
 pub fn correct_cause(
     k: usize,
     count: usize,
@@ -67,8 +69,11 @@ pub fn correct_cause(
     following: Knot,
     coefficients: &[i32],
 ) -> Found
-    requires { ⌜ (k < count → (CloseBefore (record { there = ltb 0 k; knot = previous }) (old .position)) × (CloseAfter (old .position) (record { there = ltb (k + 1) count; knot = following }))) ⌝ }
-    ensures { λ r. ⌜ Finds r (correctCauses k count (beside (ltb 0 k) previous) (old .position) (beside (ltb (k + 1) count) following) (now (coefficients .entry))) (scanOf (old .position) (now (coefficients .entry))) ⌝ }
+    requires { ⌜ (k < count → (CloseBefore (record { there = ltb 0 k; knot = previous }) (old .position))
+        × (CloseAfter (old .position) (record { there = ltb (k + 1) count; knot = following }))) ⌝ }
+    ensures { λ r. ⌜ Finds r (correctCauses k count (beside (ltb 0 k) previous) (old .position)
+        (beside (ltb (k + 1) count) following) (now (coefficients .entry)))
+        (scanOf (old .position) (now (coefficients .entry))) ⌝ }
 {
     if count <= k {
         return Found {

@@ -41,4 +41,5 @@ slope m n p q = lowered s 1-s m n p ⊕ negsuc 0 ⊙ lowered 1-s s n m (rightWei
 -- Y1 − Y2 + Y3 at r/D by half-sums, each without rounding and multiplied by D^(m+n)
 unfoldable pub unroundedSlope : ℕ → ℕ → ℕ → ℕ → (ℕ → ℤ) → (ℕ → ℤ) → ℤ
 unroundedSlope m n r D p q =
-    lowerUnrounded m n r D p -ℤ lowerUnrounded n m (D - r) D (rightWeights q) +ℤ pos ((D - r) ^ n) *ℤ (pos (r ^ m) *ℤ (pos valueUnit *ℤ K m n p q))
+    lowerUnrounded m n r D p -ℤ lowerUnrounded n m (D - r) D (rightWeights q) +ℤ
+    pos ((D - r) ^ n) *ℤ (pos (r ^ m) *ℤ (pos valueUnit *ℤ K m n p q))

@@ -1,4 +1,5 @@
--- Document 01, "Water": the exact integral, in 1/720,720, and the integral weights of formulas (11) to (13) of source document 001.
+-- Document 01, "Water": the exact integral, in 1/720,720, and the integral weights of formulas (11) to (13)
+-- of source document 001.
 use Prim.Native.Nat.{ℕ, zero, suc, _+_, _*_, _-_, _/_}
 use lib.IntN.{ℤ, pos, _+ℤ_, _*ℤ_}
 use Rattle.integer.specs.Sum.{sum}

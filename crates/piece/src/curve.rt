@@ -1,7 +1,8 @@
-// A piece at distance r from its left knot, in 1/256 step: value, in 1/65,536 count, and trend, in 1/65,536 count per step.
+// A piece at distance r from its left knot, in 1/256 step: value, in 1/65,536 count, and trend, in 1/65,536 count
+// per step.
 ghost use mathlib.Core.Path.{_≡_};
 ghost use Prim.Native.Nat.{_*_, _≤_};
-ghost use Rattle.rounding.specs.Piece.{piece};
+ghost use Rattle.rounding.specs.Piece.{piece, positionUnit};
 ghost use Rattle.rounding.specs.Size.{Admitted};
 ghost use Rattle.rounding.specs.Trend.{trend as Trend·trend};
 ghost use Rattle.rounding.specs.Value.{value as Value·value};
@@ -17,7 +18,7 @@ use scaling::scaled;
 
 // The value: a half-sum from each end.
 pub fn value(h: u64, left: &[i32], right: &[i32], r: u64) -> i64
-    requires { ⌜ (Admitted (piece h (now left) (now right))) × (r ≤ 256 * h) ⌝ }
+    requires { ⌜ (Admitted (piece h (now left) (now right))) × (r ≤ positionUnit * h) ⌝ }
     ensures { λ v. ⌜ v ≡ Value·value (piece h (now (left .entry)) (now (right .entry))) r ⌝ }
 {
     let m = left.len() - 1;
@@ -33,7 +34,7 @@ pub fn value(h: u64, left: &[i32], right: &[i32], r: u64) -> i64
 
 // The trend: Y1 − Y2 + Y3, divided by h.
 pub fn trend(h: u64, left: &[i32], right: &[i32], r: u64) -> i64
-    requires { ⌜ (Admitted (piece h (now left) (now right))) × (r ≤ 256 * h) ⌝ }
+    requires { ⌜ (Admitted (piece h (now left) (now right))) × (r ≤ positionUnit * h) ⌝ }
     ensures { λ z. ⌜ z ≡ Trend·trend (piece h (now (left .entry)) (now (right .entry))) r ⌝ }
 {
     let m = left.len() - 1;

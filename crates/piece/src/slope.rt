@@ -14,8 +14,8 @@ use half_sum::weighted;
 use scaling::Divisor;
 use scaling::scaled_times;
 
-// One of the two sums of K. What multiplies w_j there, (m+n−j+1) × binomial(m+n−j, m−j), is (n+1) × binomial(n+1+m−j, m−j):
-// n+1 times an entry of the table.
+// One of the two sums of K. What multiplies w_j there, (m+n−j+1) × binomial(m+n−j, m−j), is
+// (n+1) × binomial(n+1+m−j, m−j): n+1 times an entry of the table.
 pub fn sum_k(m: usize, n: usize, w: &[i64]) -> i64
     requires { ⌜ (m ≤ gradeMax) × (n ≤ gradeMax) × (Weights sizeMax (now w)) ⌝ }
     ensures { λ r. ⌜ r ≡ sumK m n (coefficient (now (w .entry))) ⌝ }
@@ -26,7 +26,8 @@ pub fn sum_k(m: usize, n: usize, w: &[i64]) -> i64
     next as i64 * weighted(m, &table[from..], w)
 }
 
-// Y3: 65,536 × K, scaled by r/d m times, then by (d−r)/d n times. Each sum of K is at most 91,520 times the greatest weight.
+// Y3: 65,536 × K, scaled by r/d m times, then by (d−r)/d n times. Each sum of K is at most 91,520 times the
+// greatest weight.
 pub fn scaled_k(m: usize, n: usize, r: u64, divisor: Divisor, k: i64) -> i64
     requires { ⌜ (Fraction r divisor) × (Within (2 * (91520 * sizeMax)) k) ⌝ }
     ensures { λ y. ⌜ y ≡ scaledK m n r (divisor .d) k ⌝ }

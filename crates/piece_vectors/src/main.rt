@@ -1,6 +1,7 @@
-// Runs stored pieces: reads cases of 80 bytes from standard input and writes for each a line with its value, trend and total.
-// A case is 20 words of 32 bits, low byte first: h, the number of left coefficients, that of right ones, r, and 8 left and 8 right
-// coefficients, each a magnitude with 2^31 more where it is negative; those past the numbers are not used.
+// Runs stored pieces: reads cases of 80 bytes from standard input and writes for each a line with its value, trend and
+// total. A case is 20 words of 32 bits, low byte first: h, the number of left coefficients, that of right ones, r, and
+// 8 left and 8 right coefficients, each a magnitude with 2^31 more where it is negative; those past the numbers are not
+// used.
 mod admit;
 mod case;
 mod number;

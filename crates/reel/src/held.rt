@@ -4,7 +4,9 @@ ghost use mathlib.Core.Path.{_≡_};
 ghost use lib.ListN.{length};
 ghost use Rattle.scans.specs.RefusalTable.{first as RefusalTable·first};
 ghost use Rattle.knot.specs.Machine.{refusal};
-ghost use Rattle.calls.specs.Calls.{causes, append as Calls·append, clear as Calls·clear, correct as Calls·correct, positionOf, read as Calls·read, total as Calls·total, trend as Calls·trend, value as Calls·value, write as Calls·write};
+ghost use Rattle.calls.specs.Calls.{append as Calls·append, clear as Calls·clear, correct as Calls·correct};
+ghost use Rattle.calls.specs.Calls.{read as Calls·read, write as Calls·write, causes, positionOf};
+ghost use Rattle.calls.specs.Calls.{total as Calls·total, trend as Calls·trend, value as Calls·value};
 ghost use Rattle.reel.specs.Machine.{AreTheLimits, Does, Held, replyOf, scans};
 ghost use Rattle.reel.specs.declared.answer.Answer.the-variants as Answers;
 ghost use Rattle.calls.specs.Same.{same as Same·same};
@@ -146,7 +148,8 @@ impl Reel {
         }
     }
 
-    // The block of the list into a lent output: the number of its bytes; 10 where the output is shorter, which then stays as it was.
+    // The block of the list into a lent output: the number of its bytes; 10 where the output is shorter, which then
+    // stays as it was.
     pub fn write(self, out: &mut [u8]) -> Handed
         requires { ⌜ Held self ⌝ }
         ensures { λ r. ⌜ Does (Calls·write (now (out .entry))) self (r .answer) (r .reel) (now (out .exit)) ⌝ }

@@ -39,7 +39,8 @@ pub record Asks (row : Row) (scans : List Scan) (k : ℕ) : Type 0 where
 
 -- the text of that
 abbrev pub rowText : Row → List ℕ
-rowText row = pieceText (row .index) (row .from) (row .to) (replyOf (row .value)) (replyOf (row .trend)) (replyOf (row .total))
+rowText row =
+    pieceText (row .index) (row .from) (row .to) (replyOf (row .value)) (replyOf (row .trend)) (replyOf (row .total))
 
 -- room for every report: 128 lines of at most 126 bytes and one of at most 47
 abbrev pub roomMax : ℕ

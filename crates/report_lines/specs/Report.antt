@@ -26,9 +26,11 @@ shown (refused n) = []
 
 -- `k a b v z w`
 abbrev pub pieceText : ℕ → ℕ → ℕ → Reply → Reply → Reply → List ℕ
-pieceText k a b v z w = decimal k ++ space ++ decimal a ++ space ++ decimal b ++ space ++ shown v ++ space ++ shown z ++ space ++ shown w ++ lineFeed
+pieceText k a b v z w =
+    decimal k ++ space ++ decimal a ++ space ++ decimal b ++ space ++ shown v ++ space ++ shown z ++ space ++ shown w ++ lineFeed
 
--- index, end positions, value and trend at a, piece total: the last three are the answers of the calls value, trend and total
+-- index, end positions, value and trend at a, piece total: the last three are the answers of the calls value, trend and
+-- total
 unfoldable pub pieceLine : List Scan → ℕ → List ℕ
 pieceLine scans k =
     pieceText k (at scans k .position) (at scans (suc k) .position)

@@ -23,7 +23,8 @@ use text::put_bytes;
 // A line for each piece, of which there are at most 128.
 fn put_pieces(reel: Reel, out: &mut [u8]) -> usize
     requires { ⌜ (Held reel) × (126 * 128 ≤ length (now out)) ⌝ }
-    ensures { λ r. ⌜ Put (now (out .entry)) 0 (pieceLines (scans reel) (length (scans reel) - 1)) r (now (out .exit)) ⌝ }
+    ensures { λ r. ⌜ Put (now (out .entry)) 0 (pieceLines (scans reel) (length (scans reel) - 1)) r
+        (now (out .exit)) ⌝ }
     ensures { λ r. ⌜ r ≤ 126 * 128 ⌝ }
 {
     let count = reel.count();

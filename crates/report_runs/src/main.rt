@@ -1,5 +1,5 @@
-// Runs stored blocks: reads from standard input the length of each, 4 bytes with the low one first, and then its bytes, and writes its
-// report with an empty line behind it.
+// Runs stored blocks: reads from standard input the length of each, 4 bytes with the low one first, and then its bytes,
+// and writes its report with an empty line behind it.
 ghost use mathlib.Core.Path.{_≡_};
 ghost use Prim.Native.Nat.{_≤_};
 ghost use lib.ListN.{length};

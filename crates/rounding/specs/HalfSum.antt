@@ -1,4 +1,5 @@
--- Document 01, "Half-sum of grade m against n, with fraction a/D and weights w_0 to w_m". Step 1, the sums g_i, is hermite's `g`.
+-- Document 01, "Half-sum of grade m against n, with fraction a/D and weights w_0 to w_m". Step 1, the sums
+-- g_i, is hermite's `g`.
 use Prim.Native.Nat.{ℕ, zero, suc, _+_, _-_}
 use lib.IntN.{ℤ, pos, _+ℤ_, _*ℤ_}
 use Rattle.hermite.specs.HalfSum.{valueUnit, g}

@@ -1,4 +1,5 @@
--- Document 01, "Trend": the trend at distance r from the left knot, in 1/65,536 count per step, and demand 3's distance.
+-- Document 01, "Trend": the trend at distance r from the left knot, in 1/65,536 count per step, and demand 3's
+-- distance.
 use Prim.Native.Nat.{ℕ, _+_, _*_, _-_, _^_}
 use lib.IntN.{ℤ, pos, negℤ, _+ℤ_, _-ℤ_, _*ℤ_}
 use lib.Signed.{_≤ℤ_}

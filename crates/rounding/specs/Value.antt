@@ -1,4 +1,5 @@
--- Document 01, "Blend over one piece": the value at distance r from the left knot, in 1/65,536 count, and demand 3's distance.
+-- Document 01, "Blend over one piece": the value at distance r from the left knot, in 1/65,536 count, and demand
+-- 3's distance.
 use Prim.Native.Nat.{ℕ, _+_, _*_, _-_, _^_}
 use lib.IntN.{ℤ, pos, _+ℤ_, _-ℤ_, _*ℤ_}
 use lib.Signed.{_≤ℤ_, _<ℤ_}

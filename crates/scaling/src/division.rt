@@ -4,6 +4,7 @@ ghost use Prim.Native.Nat.{_*_, _/_, _≤_, _<_, _^_, _-_};
 ghost use Rattle.integer.specs.Within.{Within};
 ghost use Rattle.scaling.specs.Machine.{Divides, Fraction};
 ghost use Rattle.rounding.specs.Limits.{gapMax};
+ghost use Rattle.rounding.specs.Piece.{positionUnit};
 ghost use Rattle.rounding.specs.Scaling.{scaled as Scaling·scaled, scaledTimes};
 
 // A divisor d of 1 to 4,096 with its reciprocal, 2^36 / d + 1, which saves a division in each scaling.
@@ -14,7 +15,7 @@ pub struct Divisor {
 
 impl Divisor {
     pub fn of(d: u64) -> Self
-        requires { ⌜ (0 < d) × (d ≤ 256 * gapMax) ⌝ }
+        requires { ⌜ (0 < d) × (d ≤ positionUnit * gapMax) ⌝ }
         ensures { λ r. ⌜ (r .d ≡ d) × (Divides r) ⌝ }
     {
         Self {
@@ -24,8 +25,8 @@ impl Divisor {
     }
 }
 
-// u × a / d rounded down, without forming u × a: the multiples of d in u, and what they leave of u, which is small, by the
-// reciprocal.
+// u × a / d rounded down, without forming u × a: the multiples of d in u, and what they leave of u, which is small, by
+// the reciprocal.
 fn part(u: u64, a: u64, divisor: Divisor) -> u64
     requires { ⌜ Fraction a divisor ⌝ }
     ensures { λ r. ⌜ r ≡ u * a / divisor .d ⌝ }

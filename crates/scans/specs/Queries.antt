@@ -9,8 +9,8 @@ use Rattle.rounding.specs.Water.{total}
 use Rattle.scans.specs.Scan.{Scan}
 use Rattle.scans.specs.Pieces.{pieceOf, valuePlace, trendPlace}
 
--- "Blend over one piece": the piece of a value at query position x, and the value; the piece has a name beside that of a
--- trend for request 3/14, which moves the latter
+-- "Blend over one piece": the piece of a value at query position x, and the value; the piece has a name beside that of
+-- a trend for request 3/14, which moves the latter
 abbrev pub valuePiece : List Scan → ℕ → Piece
 valuePiece scans x = pieceOf scans (valuePlace scans x .k)
 

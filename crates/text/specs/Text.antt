@@ -31,7 +31,8 @@ abbrev pub hexText : List ℕ → List ℕ
 hexText [] = []
 hexText (b ∷ bs) = hexDigit (b / 16) ∷ hexDigit (b % 16) ∷ hexText bs
 
--- what a function that writes leaves: the text from place `at` on in what stood there before, with the place r behind it
+-- what a function that writes leaves: the text from place `at` on in what stood there before, with the place r behind
+-- it
 pub record Put (before : List ℕ) (at : ℕ) (text : List ℕ) (r : ℕ) (after : List ℕ) : Type 0 where
   pub next : r ≡ at + length text
   pub holds : after ≡ sets before at text

@@ -1,7 +1,9 @@
 // The fields of a word, taken out and put back by shifts and masks.
 ghost use mathlib.Core.Path.{_≡_};
 ghost use Prim.Native.Nat.{_^_, _<_};
-ghost use Rattle.block.specs.Fields.{kind as Fields·kind, knotCount, edition as Fields·edition, headerSpare, headerWord, position as Fields·position, grade as Fields·grade, knotSpare, knotWord, payload as Fields·payload, coefficientWord, wordsBefore, endWord};
+ghost use Rattle.block.specs.Fields.{kind as Fields·kind, knotCount, edition as Fields·edition, headerSpare};
+ghost use Rattle.block.specs.Fields.{headerWord, position as Fields·position, grade as Fields·grade, knotSpare};
+ghost use Rattle.block.specs.Fields.{knotWord, payload as Fields·payload, coefficientWord, wordsBefore, endWord};
 
 // The top two bits.
 pub fn kind(word: u32) -> u32
