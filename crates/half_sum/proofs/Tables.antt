@@ -40,9 +40,13 @@ small [] h j = omega arith
 small (x ∷ t) h zero = leb-true x waterUnit (both-first (leb x waterUnit) (all-small t) h)
 small (x ∷ t) h (suc j) = small t (both-second (leb x waterUnit) (all-small t) h) j
 
-pub part-entries : (t : List ℕ) (k from : ℕ) → all-small t ≡ true → Entries (take k (drop from t))
-part-entries t k from h = record { small = λ j. go j (decLt j k) }
+pub all-entries : (t : List ℕ) → all-small t ≡ true → Entries t
+all-entries t h = record { small = small t h }
+
+-- and so is each of a part
+pub part-entries : (t : List ℕ) (k from : ℕ) → Entries t → Entries (take k (drop from t))
+part-entries t k from entries = record { small = λ j. go j (decLt j k) }
   where
     go : (j : ℕ) → Dec (j < k) → getD (take k (drop from t)) j 0 ≤ waterUnit
-    go j (yes b) = rw (part-entry t k from j b) (small t h (from + j))
+    go j (yes b) = rw (part-entry t k from j b) (entries .small (from + j))
     go j (no b) = rw (List·getD-eq-default (take k (drop from t)) 0 {n = j} (simp length-take (omega arith))) (omega arith)

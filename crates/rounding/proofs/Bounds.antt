@@ -160,6 +160,11 @@ scaledK-within m n r d k h b w = times-within n _ (d - r) d h (omega arith) (tim
 
 -- ---- the total
 
+-- no entry of the table of integral weights is above 720,720
+pub entry-most : (m : ℕ) → m ≤ 7 → (n : ℕ) → n ≤ 7 → (j : ℕ) → j ≤ 7 → c m n j - waterUnit ≡ 0
+unfolding c
+entry-most = sound (upto 7 (λ m. upto 7 (λ n. upto 7 (λ j. c m n j - waterUnit ≗ 0)))) refl
+
 -- the integral weights of one end, added: at most 2 × 720,720
 entries-most : (m : ℕ) → m ≤ 7 → (n : ℕ) → n ≤ 7 → shares m (c m n) - 2 * waterUnit ≡ 0
 unfolding shares c

@@ -1,2 +1,2 @@
 -- What the proof of `total` uses.
-mod Recurrence
+mod ByTable

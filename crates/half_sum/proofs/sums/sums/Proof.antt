@@ -9,7 +9,7 @@ use Rattle.hermite.specs.Binomial.{binomial}
 use Rattle.hermite.specs.Polynomial.{coefficient}
 use Rattle.knot_weights.proofs.Lists.{Filled, filled-zeros, filled-more, filled-lists}
 use Rattle.half_sum.proofs.Rows.{g-by-rows}
-use Rattle.half_sum.proofs.Tables.{part-entries}
+use Rattle.half_sum.proofs.Tables.{all-entries, part-entries}
 use Rattle.integer.proofs.Within.{result-is}
 use Rattle.half_sum.proofs.sums.sums.Statement.{statement}
 use Rattle.half_sum.proofs.sums.sums.Tie as tie
@@ -51,7 +51,7 @@ weighted-requires : tie.Need-weighted-requires Inv-loop μ-loop
 weighted-requires c κs =
     let l = c .before .before in
     let from = 8 * l .before .before .args .n + 7 - l .loop .i in
-    (omega arith, simp (length-take, length-drop) (omega arith), part-entries _ (72 - from) from refl, l .before .before .pre .1)
+    (omega arith, simp (length-take, length-drop) (omega arith), part-entries _ (72 - from) from (all-entries _ refl), l .before .before .pre .1)
 
 mul-g : tie.Need-mul-g Inv-loop μ-loop
 mul-g c = omega arith

@@ -16,7 +16,7 @@ use Rattle.rounding.proofs.Bounds.{sumK-within}
 use Rattle.knot_weights.proofs.Lists.{more-weights}
 use Rattle.piece.proofs.slope.Sums.{sumK-by-g}
 use Rattle.half_sum.proofs.Rows.{g-by-rows}
-use Rattle.half_sum.proofs.Tables.{part-entries}
+use Rattle.half_sum.proofs.Tables.{all-entries, part-entries}
 use Rattle.integer.proofs.Within.{within-fits, result-is}
 use Rattle.piece.proofs.slope.sum_k.Statement.{statement}
 use Rattle.piece.proofs.slope.sum_k.Tie as tie
@@ -55,7 +55,7 @@ weighted-requires : tie.Need-weighted-requires
 weighted-requires c κs =
     let b = c .before .before in
     let from = 8 * (b .args .n + 1) + 7 - b .args .m in
-    (omega arith, simp (length-take, length-drop) (omega arith), part-entries _ (72 - from) from refl, more-weights (lit≤ tt) (b .pre .2))
+    (omega arith, simp (length-take, length-drop) (omega arith), part-entries _ (72 - from) from (all-entries _ refl), more-weights (lit≤ tt) (b .pre .2))
 
 product-is : (c : tie.After-weighted) → let b = c .before .before .before in
     toZ w64 (b .args .n + 1) *ℤ toZ w64 (ofZ w64 (c .weighted .result)) ≡ sumK (b .args .m) (b .args .n) (coefficient (b .args .w .now))

@@ -1,6 +1,6 @@
 -- `water::integral::total` meets its contract: the table gives each end's sum, and h times their sum fits.
 use borrow.Author.Needs.{needs}
-use mathlib.Core.Path.{_≡_, refl, _∙_, ap, ap₂}
+use mathlib.Core.Path.{_≡_, _∙_, ap, ap₂}
 use Prim.Native.Nat.{_+_, _-_, _*_}
 use native.Mathlib.Omega.{arith}
 use lib.Dec.{lit<, lit≤}
@@ -18,45 +18,47 @@ use Rattle.rounding.proofs.Fits.{weightedSum-within, total-within}
 use Rattle.rounding.proofs.Bounds.{sized-within, right-sized}
 use Rattle.knot_weights.proofs.Lists.{more-weights, listed-weights}
 use Rattle.integer.proofs.Within.{within-fits, result-is}
-use Rattle.half_sum.proofs.Tables.{part-entries}
-use Rattle.water.proofs.integral.Recurrence.{sums-by-table}
+use Rattle.water.proofs.integral.ByTable.{part-small, sums-by-table}
 use Rattle.water.proofs.integral.total.Statement.{statement}
 use Rattle.water.proofs.integral.total.Tie as tie
 
 -- where the function starts, and the piece
 abbrev start : tie.After-weighted2 → tie.Start
-start c = c .before .before .before .before .before .before .before .before .before
+start c = c .before .before .before .before .before .before .before .before .before .before .before
 
 abbrev P : tie.After-weighted2 → Piece
 P c = piece (start c .args .h) (start c .args .left .now) (start c .args .right .now)
 
 -- the two ends, and h times their sum
 module _ (c : tie.After-weighted2) where
-  -- by one test of the table
-  sides-are : (c .before .before .before .weighted .result ≡ sum (m (P c)) (λ j. p (P c) j *ℤ pos (Water·c (m (P c)) (n (P c)) j))) ×
+  -- by the table
+  sides-are : (c .before .before .before .before .weighted .result ≡ sum (m (P c)) (λ j. p (P c) j *ℤ pos (Water·c (m (P c)) (n (P c)) j))) ×
       (c .weighted2 .result ≡ sum (n (P c)) (λ j. rightWeights (q (P c)) j *ℤ pos (Water·c (n (P c)) (m (P c)) j)))
-  unfolding Water·c
   sides-are =
-      sums-by-table _ refl refl (m (P c)) (n (P c)) (omega arith) (omega arith)
-      (c .before .before .before .before .before .before .before .before .weights .result)
-      (c .before .before .before .before .before .before .before .right-weights .result)
-      (λ j h. c .before .before .before .before .before .before .before .before .weights .ensures .entry j (omega arith))
-      (λ j h. c .before .before .before .before .before .before .before .right-weights .ensures .entry j (omega arith))
-      (c .before .before .before .weighted .ensures) (c .weighted2 .ensures)
+      let a = c .before .before .before .before .before .before .before .before in
+      let b = a .before in
+      let d = b .before in
+      sums-by-table (a .integral-weights .result) (a .integral-weights .ensures) (m (P c)) (n (P c)) (omega arith) (omega arith)
+      (d .weights .result) (b .right-weights .result)
+      (λ j h. d .weights .ensures .entry j (omega arith)) (λ j h. b .right-weights .ensures .entry j (omega arith))
+      (c .before .before .before .before .weighted .ensures) (c .weighted2 .ensures)
 
-  sum-is : toZ w64 (ofZ w64 (c .before .before .before .weighted .result)) +ℤ toZ w64 (ofZ w64 (c .weighted2 .result)) ≡ weightedSum (m (P c)) (n (P c)) (p (P c)) (q (P c))
+  sum-is : toZ w64 (ofZ w64 (c .before .before .before .before .weighted .result)) +ℤ toZ w64 (ofZ w64 (c .weighted2 .result)) ≡ weightedSum (m (P c)) (n (P c)) (p (P c)) (q (P c))
   unfolding weightedSum
-  sum-is = ap₂ (λ x y. x +ℤ y) (result-is (c .before .before .before .weighted .result) (c .before .before .before .weighted .ok) ∙ sides-are .0) (result-is (c .weighted2 .result) (c .weighted2 .ok) ∙ sides-are .1)
+  sum-is = ap₂ (λ x y. x +ℤ y) (result-is (c .before .before .before .before .weighted .result) (c .before .before .before .before .weighted .ok) ∙ sides-are .0) (result-is (c .weighted2 .result) (c .weighted2 .ok) ∙ sides-are .1)
 
   sum-fits : SFits w64 (weightedSum (m (P c)) (n (P c)) (p (P c)) (q (P c)))
   sum-fits = within-fits w64 _ (lit< tt) (weightedSum-within (P c) (start c .pre))
 
-  total-is : toZ w64 (start c .args .h) *ℤ toZ w64 (ofZ w64 (toZ w64 (ofZ w64 (c .before .before .before .weighted .result)) +ℤ toZ w64 (ofZ w64 (c .weighted2 .result)))) ≡ total (P c)
+  total-is : toZ w64 (start c .args .h) *ℤ toZ w64 (ofZ w64 (toZ w64 (ofZ w64 (c .before .before .before .before .weighted .result)) +ℤ toZ w64 (ofZ w64 (c .weighted2 .result)))) ≡ total (P c)
   unfolding total
   total-is = ap₂ (λ x y. x *ℤ y) (toZ-pos w64 {n = start c .args .h} (omega arith)) (ap (λ z. toZ w64 (ofZ w64 z)) sum-is ∙ toZ-ofZ sum-fits)
 
   total-fits : SFits w64 (total (P c))
   total-fits = within-fits w64 (total (P c)) (lit< tt) (total-within (P c) (start c .pre))
+
+returns : tie.Need-returns
+returns c = rw (total-is c) (toZ-ofZ (total-fits c))
 
 -- ---- the needs
 
@@ -72,8 +74,8 @@ weights-requires c κs = search needs
 right-weights-requires : tie.Need-right-weights-requires
 right-weights-requires c κs = search needs
 
-slice-aggregate-table : tie.Need-slice-aggregate-table
-slice-aggregate-table c = search needs
+integral-weights-requires : tie.Need-integral-weights-requires
+integral-weights-requires c κs = search needs
 
 mul-row : tie.Need-mul-row
 mul-row c = search needs
@@ -113,12 +115,14 @@ slice-aggregate-weighted c = search needs
 
 weighted-requires : tie.Need-weighted-requires
 weighted-requires c κs =
-    let b = c .before .before .before .before .before in
+    let a = c .before .before .before in
+    let d = a .before .before in
+    let b = d .before in
     let row = 64 * (length (b .args .left .now) - 1) + 8 * (length (b .args .right .now) - 1) in (
       omega arith,
-      simp (length-take, length-drop) (omega arith),
-      part-entries _ (512 - row) row refl,
-      more-weights (lit≤ tt) (listed-weights (c .before .before .before .before .weights .ensures) (λ j. sized-within (b .args .h) (b .args .left .now) j (b .pre .leftSize))),
+      simp (length-take, length-drop) (omega (arith, a .integral-weights .ensures .count)),
+      part-small (a .integral-weights .result) (a .integral-weights .ensures) (512 - row) row,
+      more-weights (lit≤ tt) (listed-weights (d .weights .ensures) (λ j. sized-within (b .args .h) (b .args .left .now) j (b .pre .leftSize))),
     )
 
 mul-weighted-2 : tie.Need-mul-weighted-2
@@ -138,12 +142,14 @@ slice-aggregate-weighted-2 c = search needs
 
 weighted-requires-2 : tie.Need-weighted-requires-2
 weighted-requires-2 c κs =
-    let b = c .before .before .before .before .before .before .before .before in
+    let a = c .before .before .before .before .before .before .before in
+    let d = a .before in
+    let b = d .before .before in
     let row = 64 * (length (b .args .right .now) - 1) + 8 * (length (b .args .left .now) - 1) in (
       omega arith,
-      simp (length-take, length-drop) (omega arith),
-      part-entries _ (512 - row) row refl,
-      more-weights (lit≤ tt) (listed-weights (c .before .before .before .before .before .before .right-weights .ensures) (λ j. right-sized (b .args .h) (b .args .right .now) j (b .pre .rightSize))),
+      simp (length-take, length-drop) (omega (arith, a .integral-weights .ensures .count)),
+      part-small (a .integral-weights .result) (a .integral-weights .ensures) (512 - row) row,
+      more-weights (lit≤ tt) (listed-weights (d .right-weights .ensures) (λ j. right-sized (b .args .h) (b .args .right .now) j (b .pre .rightSize))),
     )
 
 add-result : tie.Need-add-result
@@ -151,9 +157,6 @@ add-result c = rw (sum-is c) (sum-fits c)
 
 mul-result : tie.Need-mul-result
 mul-result c = rw (total-is c) (total-fits c)
-
-returns : tie.Need-returns
-returns c = rw (total-is c) (toZ-ofZ (total-fits c))
 
 pub total-spec : {M : Type 1} → statement M
 total-spec =
@@ -163,7 +166,7 @@ total-spec =
     sub-n
     weights-requires
     right-weights-requires
-    slice-aggregate-table
+    integral-weights-requires
     mul-row
     mul-row-2
     add-row

@@ -1,0 +1,2 @@
+-- What the proof of `integral_weights` uses.
+mod Recurrence
