@@ -13,6 +13,10 @@ pub below-both : (b : ℕ) (us vs : List ℕ) → Below b us → Below b vs → 
 below-both b [] vs p q = q
 below-both b (u ∷ us) vs p q = (p .0, below-both b us vs (p .1) q)
 
+pub below-all : (b : ℕ) (us : List ℕ) → ((i : ℕ) → getD us i 0 < b) → Below b us
+below-all b [] small = tt
+below-all b (u ∷ us) small = (small zero, below-all b us (λ i. small (suc i)))
+
 -- one word of its four bytes, and the bytes of one word
 joined-again : (w : ℕ) → w < 2 ^ 32 → joined (w % 2 ^ 8) (w / 2 ^ 8 % 2 ^ 8) (w / 2 ^ 16 % 2 ^ 8) (w / 2 ^ 24 % 2 ^ 8) ≡ w
 joined-again w h =

@@ -73,8 +73,8 @@ wordsCauses (w ∷ ws) = headerCauses w ++ knotsCauses (length ws) (knotCount w)
 unfoldable pub blockCauses : List ℕ → List Cause
 blockCauses bs = lengthCauses (length bs) ++ wordsCauses (words bs)
 
--- ---- "the list of a block has one knot for each knot word, in order, with its position, its grade and the
--- coefficients in its coefficient words"
+-- ---- document 01: "the list of a block has one knot for each knot word, in order, with its position, its grade and
+-- the coefficients in its coefficient words"
 
 abbrev pub knotsFrom : ℕ → List ℕ → List Scan
 knotsFrom zero ws = []

@@ -2,10 +2,12 @@
 use mathlib.Core.List.{List}
 use mathlib.Core.Option.{Option, none}
 use mathlib.Core.Path.{_≡_}
-use Prim.Native.Nat.{ℕ, _≤_, _<_}
-use lib.ListN.{length}
+use Prim.Native.Nat.{ℕ, _-_, _≤_, _<_}
+use lib.ListN.{length, drop}
 use Rattle.rounding.specs.Limits.{knotsMax}
 use Rattle.scans.specs.Scan.{Scan}
+use Rattle.scans.specs.RefusalTable.{first}
+use Rattle.block.specs.Reading.{knotsCauses, knotsFrom}
 use Rattle.knot.specs.Machine.{Graded, Numbers, knotIn, scansIn}
 use Rattle.block_reader.specs.declared.reader.Contents.{Contents}
 
@@ -16,3 +18,8 @@ pub record Reads (r : Contents) (fault : Option ℕ) (list : List Scan) : Type 0
   pub count : r .count ≤ knotsMax
   pub graded : fault ≡ none → (k : ℕ) → k < r .count → Graded (knotIn (r .knots) k)
   pub scans : fault ≡ none → scansIn (r .count) (r .knots) ≡ list
+
+-- the same of a block's knots and its end word, with its words given: from the second one on, so many knots
+abbrev pub ReadsKnots : Contents → ℕ → List ℕ → Type 0
+ReadsKnots r count ws =
+    Reads r (first (knotsCauses (length ws - 1) count none (drop 1 ws))) (knotsFrom count (drop 1 ws))

@@ -1,13 +1,14 @@
 // Reading a block: a knot word, its coefficient words, the next knot; and the first fault ends it.
 ghost use mathlib.Core.Option.{none};
 ghost use mathlib.Core.Path.{_≡_};
-ghost use Prim.Native.Nat.{_-_, _≤_};
-ghost use lib.ListN.{drop, length};
+ghost use Prim.Native.Nat.{_≤_};
+ghost use lib.ListN.{length};
 ghost use Rattle.rounding.specs.Limits.{knotsMax};
 ghost use Rattle.scans.specs.RefusalTable.{first};
 ghost use Rattle.block.specs.Bytes.{words};
-ghost use Rattle.block.specs.Reading.{blockCauses, knotsCauses, knotsFrom, listOf};
-ghost use Rattle.block_reader.specs.Machine.{Reads};
+ghost use Rattle.block.specs.Block.{block as Block·block};
+ghost use Rattle.block.specs.Reading.{blockCauses, listOf};
+ghost use Rattle.block_reader.specs.Machine.{Reads, ReadsKnots};
 use crate::faults::end_fault;
 use crate::faults::header_fault;
 use crate::faults::knot_fault;
@@ -57,9 +58,7 @@ fn stopped(refusal: u32) -> Contents
 // The knots of a block, from its second word on.
 fn read_knots(block: &[u8], count: usize) -> Contents
     requires { ⌜ count ≤ knotsMax ⌝ }
-    ensures { λ r. ⌜ Reads r (first (knotsCauses (length (words (now (block .entry))) - 1) count none
-        (drop 1 (words (now (block .entry))))))
-        (knotsFrom count (drop 1 (words (now (block .entry))))) ⌝ }
+    ensures { λ r. ⌜ ReadsKnots r count (words (now (block .entry))) ⌝ }
 {
     let none = free();
     let mut knots = [none; KNOTS_MAX];
@@ -113,9 +112,12 @@ fn read_knots(block: &[u8], count: usize) -> Contents
     }
 }
 
-// Every list of bytes: the number of its first fault in word order, or its list.
+// Every list of bytes: the number of its first fault in word order, or its list. An accepted block is the block of its
+// list.
 pub fn read(block: &[u8]) -> Contents
     ensures { λ r. ⌜ Reads r (first (blockCauses (now (block .entry)))) (listOf (now (block .entry))) ⌝ }
+    ensures { λ _. ⌜ (first (blockCauses (now (block .entry))) ≡ none →
+        Block·block (listOf (now (block .entry))) ≡ now (block .entry)) ⌝ }
 {
     let length = length_fault(block.len()).number();
     if length != 0 {

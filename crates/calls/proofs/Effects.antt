@@ -10,7 +10,7 @@ use Rattle.scans.specs.RefusalTable.{first}
 use Rattle.calls.specs.Calls.{Call, Reply, accepted, number, refused}
 use Rattle.calls.specs.Calls.{causes, changed, says, lent, filled, answered, replyTo, standingAfter, output}
 
--- "the answer is the number of the first in that order, and the standing scans and a lent output stay as they were"
+-- document 01: "the answer is the number of the first in that order, and the standing scans and a lent output stay as they were"
 module _ (call : Call) (scans : List Scan) {n : ℕ} (cause : first (causes call scans) ≡ some n) where
   pub refusal-replies : replyTo call scans ≡ refused n
   unfolding replyTo
@@ -24,7 +24,7 @@ module _ (call : Call) (scans : List Scan) {n : ℕ} (cause : first (causes call
   unfolding output
   refusal-writes = rw cause refl
 
--- "If none holds, the list changes as that call's line under The reel says"
+-- document 01: "If none holds, the list changes as that call's line under The reel says"
 module _ (call : Call) (scans : List Scan) (quiet : first (causes call scans) ≡ none) where
   pub acceptance-replies : replyTo call scans ≡ says call scans
   unfolding replyTo
@@ -50,10 +50,6 @@ answer-is none said reply plain e = (refl, e)
 answer-is (some n) said reply plain e = absurd (true≢false (ap isRefused e ∙ plain))
 
 module _ (call : Call) (scans : List Scan) where
-  pub accepted-quiet : replyTo call scans ≡ accepted → first (causes call scans) ≡ none
-  unfolding replyTo
-  accepted-quiet e = answer-is (first (causes call scans)) (says call scans) accepted refl e .0
-
   pub number-quiet : {z : ℤ} → replyTo call scans ≡ number z → (first (causes call scans) ≡ none) × (says call scans ≡ number z)
   unfolding replyTo
   number-quiet {z} e = answer-is (first (causes call scans)) (says call scans) (number z) refl e

@@ -36,7 +36,7 @@ pub data Reply : Type 0 where
 abbrev pub corrected : List Scan → ℕ → List ℤ → Scan
 corrected scans k C = scanOf (at scans k .position) C
 
--- "Order": the causes of each call, in the order in which they are asked
+-- document 01, "Refusal table", Order: the causes of each call, in the order in which they are asked
 abbrev pub causes : Call → List Scan → List Cause
 causes clear scans = []
 causes (append x C) scans = appendCauses (length scans) (before scans (length scans)) x C

@@ -3,10 +3,14 @@ use mathlib.Core.Bool.{Bool}
 use mathlib.Core.List.{List}
 use mathlib.Core.Option.{Option, none}
 use mathlib.Core.Path.{_≡_}
-use Rattle.scans.specs.Scan.{Scan}
+use Prim.Native.Nat.{ℕ, _+_}
+use lib.Dec.{ltb}
+use lib.IntN.{ℤ}
+use Rattle.scans.specs.Scan.{Scan, scanOf}
 use Rattle.scans.specs.RefusalTable.{Cause, first}
+use Rattle.scans.specs.Order.{correctCauses}
 use Rattle.knot.specs.Machine.{Holds, refusal}
-use Rattle.following.specs.Machine.{neighbour}
+use Rattle.following.specs.Machine.{neighbour, CloseBefore, CloseAfter}
 use Rattle.knot.specs.declared.held.Knot.{Knot}
 use Rattle.first_cause.specs.declared.changes.Found.{Found}
 
@@ -18,3 +22,14 @@ pub record Finds (r : Found) (causes : List Cause) (s : Scan) : Type 0 where
 -- the scan of a knot beside a place of the list, where there is one
 abbrev pub beside : Bool → Knot → Option Scan
 beside there knot = neighbour (record { there = there; knot = knot })
+
+-- what a correct of knot k of so many, at position x, needs and finds: the knots before and after it, where there are
+-- any, are at most 16 steps away; the first of its causes, or else the knot with the new coefficients
+abbrev pub CloseBeside : ℕ → ℕ → Knot → ℕ → Knot → Type 0
+CloseBeside k count previous x following =
+    CloseBefore (record { there = ltb 0 k; knot = previous }) x ×
+    CloseAfter x (record { there = ltb (k + 1) count; knot = following })
+
+abbrev pub FindsCorrected : Found → ℕ → ℕ → Knot → ℕ → Knot → List ℤ → Type 0
+FindsCorrected r k count previous x following C =
+    Finds r (correctCauses k count (beside (ltb 0 k) previous) x (beside (ltb (k + 1) count) following) C) (scanOf x C)

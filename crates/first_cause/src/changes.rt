@@ -1,13 +1,12 @@
 // The first cause that refuses a call which puts a knot into the list, or the knot that it puts there.
 ghost use mathlib.Core.Bool.{true};
 ghost use mathlib.Core.Path.{_≡_};
-ghost use Prim.Native.Nat.{_+_, _<_};
+ghost use Prim.Native.Nat.{_<_};
 ghost use lib.Dec.{ltb};
 ghost use Rattle.scans.specs.Scan.{scanOf};
 ghost use Rattle.knot.specs.Machine.{Graded};
-ghost use Rattle.following.specs.Machine.{CloseAfter, CloseBefore};
-ghost use Rattle.scans.specs.Order.{appendCauses, correctCauses};
-ghost use Rattle.first_cause.specs.Machine.{Finds, beside};
+ghost use Rattle.scans.specs.Order.{appendCauses};
+ghost use Rattle.first_cause.specs.Machine.{CloseBeside, Finds, FindsCorrected, beside};
 use following::Neighbour;
 use following::list_cause;
 use following::position_cause;
@@ -69,11 +68,8 @@ pub fn correct_cause(
     following: Knot,
     coefficients: &[i32],
 ) -> Found
-    requires { ⌜ (k < count → (CloseBefore (record { there = ltb 0 k; knot = previous }) (old .position))
-        × (CloseAfter (old .position) (record { there = ltb (k + 1) count; knot = following }))) ⌝ }
-    ensures { λ r. ⌜ Finds r (correctCauses k count (beside (ltb 0 k) previous) (old .position)
-        (beside (ltb (k + 1) count) following) (now (coefficients .entry)))
-        (scanOf (old .position) (now (coefficients .entry))) ⌝ }
+    requires { ⌜ (k < count → CloseBeside k count previous (old .position) following) ⌝ }
+    ensures { λ r. ⌜ FindsCorrected r k count previous (old .position) following (now (coefficients .entry)) ⌝ }
 {
     if count <= k {
         return Found {

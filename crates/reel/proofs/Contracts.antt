@@ -6,8 +6,9 @@ use mathlib.Core.List.{List, []}
 use mathlib.Core.Path.{_≡_}
 use Prim.Native.Nat.{ℕ}
 use lib.IntN.{ℤ}
-use Rattle.calls.specs.Calls.{clear, append, correct, read, write, value, trend, total}
-use Rattle.reel.specs.Machine.{scans, Held, Does}
+use Rattle.block.specs.Block.{block}
+use Rattle.calls.specs.Calls.{accepted, clear, append, correct, read, write, value, trend, total}
+use Rattle.reel.specs.Machine.{scans, Held, replyOf, Does}
 use Rattle.reel.specs.declared.held.Reel.{Reel}
 use Rattle.reel.specs.declared.answer.Handed.{Handed}
 use Rattle.reel.proofs.held.Reel.empty.Reads as empty-reads
@@ -41,7 +42,13 @@ module _ (given : Reel) (handed : Handed) (held : Held given) where
   pub read-does : (κs : Lfts 1) (bytes : RefT (List ℕ)) →
       (read-reads.Pre κs (given, (bytes, tt)) → read-reads.Post κs (given, (bytes, tt)) handed (given, (bytes, tt))) →
       Does (read (now bytes)) given (handed .answer) (handed .reel) []
-  read-does κs bytes contract = contract held
+  read-does κs bytes contract = contract held .0
+
+  -- an accepted block is the block of its list
+  pub read-again : (κs : Lfts 1) (bytes : RefT (List ℕ)) →
+      (read-reads.Pre κs (given, (bytes, tt)) → read-reads.Post κs (given, (bytes, tt)) handed (given, (bytes, tt))) →
+      replyOf (handed .answer) ≡ accepted → block (scans (handed .reel)) ≡ now bytes
+  read-again κs bytes contract = contract held .1
 
   pub write-does : (κs : Lfts 1) (out after : RefT (List ℕ)) →
       (write-reads.Pre κs (given, (out, tt)) → write-reads.Post κs (given, (out, tt)) handed (given, (after, tt))) →

@@ -1,16 +1,13 @@
 -- The machine's reel and answers in the model, the invariant of a held reel, and what each call promises.
 use mathlib.Core.Bool.{false}
 use mathlib.Core.List.{List}
-use mathlib.Core.Option.{none}
 use mathlib.Core.Path.{_≡_}
 use Prim.Native.Nat.{ℕ}
-use Rattle.rounding.specs.Limits.{knotsMax, gradeMax, gapMax, sizeMax}
 use Rattle.scans.specs.Scan.{Scan}
 use Rattle.scans.specs.Standing.{Standing}
-use Rattle.scans.specs.RefusalTable.{first}
 use Rattle.knot.specs.Machine.{Filled, knotIn, scansIn, number as refusalNumber}
 use Rattle.knot.specs.declared.held.Knot.{Knot}
-use Rattle.calls.specs.Calls.{Call, Reply, accepted, number, refused, causes, changes, replyTo, standingAfter, output}
+use Rattle.calls.specs.Calls.{Call, Reply, accepted, number, refused, changes, replyTo, standingAfter, output}
 use Rattle.reel.specs.declared.held.Reel.{Reel}
 use Rattle.reel.specs.declared.answer.Answer.{Answer}
 use Rattle.reel.specs.declared.answer.Answer.the-variants as Answers
@@ -28,14 +25,7 @@ pub record Held (r : Reel) : Type 0 where
   pub filled : Filled (r .knots) (r .count)
   pub standing : Standing (scans r)
 
--- constants for knots, gap, grade and size are the paper's limits
-pub record AreTheLimits (k h m s : ℕ) : Type 0 where
-  pub knots : k ≡ knotsMax
-  pub gap : h ≡ gapMax
-  pub grade : m ≡ gradeMax
-  pub size : s ≡ sizeMax
-
--- the reply of an answer, with the paper's numbers
+-- the reply of an answer, with document 01's numbers
 abbrev pub replyOf : Answer → Reply
 replyOf Answers.Accepted = accepted
 replyOf (Answers.Number z) = number z
@@ -48,7 +38,9 @@ pub record Does (call : Call) (given : Reel) (answer : Answer) (handed : Reel) (
   -- the scans left are the model's
   pub leaves : scans handed ≡ standingAfter call (scans given)
   pub held : Held handed
-  -- a refused call, and one that changes nothing, hands back the very reel it was given
-  pub kept : (first (causes call (scans given)) ≡ none → changes call ≡ false) → handed ≡ given
+  -- after a refusal the reel handed back is the very one given
+  pub refusalKeeps : (n : ℕ) → replyOf answer ≡ refused n → handed ≡ given
+  -- and so it is after a call that does not change the list: a write or a query
+  pub queryKeeps : changes call ≡ false → handed ≡ given
   -- all bytes of the output are the model's
   pub writes : out ≡ output call (scans given)

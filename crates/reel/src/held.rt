@@ -2,12 +2,14 @@
 ghost use mathlib.Core.List.{[]};
 ghost use mathlib.Core.Path.{_≡_};
 ghost use lib.ListN.{length};
+ghost use Rattle.rounding.specs.Limits.{gapMax, gradeMax, knotsMax, sizeMax};
 ghost use Rattle.scans.specs.RefusalTable.{first as RefusalTable·first};
 ghost use Rattle.knot.specs.Machine.{refusal};
+ghost use Rattle.block.specs.Block.{block};
 ghost use Rattle.calls.specs.Calls.{append as Calls·append, clear as Calls·clear, correct as Calls·correct};
-ghost use Rattle.calls.specs.Calls.{read as Calls·read, write as Calls·write, causes, positionOf};
+ghost use Rattle.calls.specs.Calls.{read as Calls·read, write as Calls·write, accepted, causes, positionOf};
 ghost use Rattle.calls.specs.Calls.{total as Calls·total, trend as Calls·trend, value as Calls·value};
-ghost use Rattle.reel.specs.Machine.{AreTheLimits, Does, Held, replyOf, scans};
+ghost use Rattle.reel.specs.Machine.{Does, Held, replyOf, scans};
 ghost use Rattle.reel.specs.declared.answer.Answer.the-variants as Answers;
 ghost use Rattle.calls.specs.Same.{same as Same·same};
 use crate::answer::Answer;
@@ -39,10 +41,11 @@ impl Reel {
 
     pub const SIZE_MAX: u64 = knot::SIZE_MAX;
 
-    // The reel of no knots.
+    // The reel of no knots. The constants are document 01's limits.
     pub fn empty() -> Self
         ensures { λ r. ⌜ (Held r) × (scans r ≡ []) ⌝ }
-        ensures { λ r. do ⌜ AreTheLimits (← ⟦Reel::KNOTS_MAX⟧ .entry) (← ⟦Reel::GAP_MAX⟧ .entry) (← ⟦Reel::GRADE_MAX⟧ .entry) (← ⟦Reel::SIZE_MAX⟧ .entry) ⌝ }
+        ensures { λ _. do ⌜ ((← ⟦Reel::KNOTS_MAX⟧ .entry) ≡ knotsMax) × ((← ⟦Reel::GAP_MAX⟧ .entry) ≡ gapMax) ⌝ }
+        ensures { λ _. do ⌜ ((← ⟦Reel::GRADE_MAX⟧ .entry) ≡ gradeMax) × ((← ⟦Reel::SIZE_MAX⟧ .entry) ≡ sizeMax) ⌝ }
     {
         let coefficients = [0i32; COEFFICIENTS_MAX];
         let free = Knot {
@@ -129,10 +132,11 @@ impl Reel {
         }
     }
 
-    // The list of a block; or the number of its first fault.
+    // The list of a block, and the block is then that of the list; or the number of its first fault.
     pub fn read(mut self, bytes: &[u8]) -> Handed
         requires { ⌜ Held self ⌝ }
         ensures { λ r. ⌜ Does (Calls·read (now (bytes .entry))) self (r .answer) (r .reel) [] ⌝ }
+        ensures { λ r. ⌜ (replyOf (r .answer) ≡ accepted → block (scans (r .reel)) ≡ now (bytes .entry)) ⌝ }
     {
         let contents = block_reader::read(bytes);
         let refusal = contents.refusal;

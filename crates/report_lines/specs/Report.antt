@@ -27,7 +27,8 @@ shown (refused n) = []
 -- `k a b v z w`
 abbrev pub pieceText : ℕ → ℕ → ℕ → Reply → Reply → Reply → List ℕ
 pieceText k a b v z w =
-    decimal k ++ space ++ decimal a ++ space ++ decimal b ++ space ++ shown v ++ space ++ shown z ++ space ++ shown w ++ lineFeed
+    decimal k ++ space ++ decimal a ++ space ++ decimal b ++ space ++
+    shown v ++ space ++ shown z ++ space ++ shown w ++ lineFeed
 
 -- index, end positions, value and trend at a, piece total: the last three are the answers of the calls value, trend and
 -- total
@@ -35,6 +36,10 @@ unfoldable pub pieceLine : List Scan → ℕ → List ℕ
 pieceLine scans k =
     pieceText k (at scans k .position) (at scans (suc k) .position)
     (replyTo (value (mark scans k)) scans) (replyTo (trend (mark scans k)) scans) (replyTo (total k (suc k)) scans)
+
+-- the number of pieces
+abbrev pub piecesIn : List Scan → ℕ
+piecesIn scans = length scans - 1
 
 -- the lines of pieces 0 to n − 1
 unfoldable pub pieceLines : List Scan → ℕ → List ℕ
@@ -59,7 +64,7 @@ reportCauses bytes = badForm (ltb blockMax (length bytes)) ∷ blockCauses bytes
 
 -- the number of the first of these, or a line for each piece and one for the reel
 abbrev pub reported : Option ℕ → List Scan → List ℕ
-reported none scans = pieceLines scans (length scans - 1) ++ reelLine scans (length scans - 1)
+reported none scans = pieceLines scans (piecesIn scans) ++ reelLine scans (piecesIn scans)
 reported (some n) scans = refusedLine n
 
 unfoldable pub reportOf : List ℕ → List ℕ

@@ -5,7 +5,7 @@ ghost use lib.ListN.{length};
 ghost use Rattle.text.specs.Text.{Put};
 ghost use Rattle.knot.specs.Machine.{number};
 ghost use Rattle.reel.specs.Machine.{Held, replyOf, scans};
-ghost use Rattle.report_lines.specs.Report.{pieceLines, refusedLine, reported, reportOf, reelText};
+ghost use Rattle.report_lines.specs.Report.{piecesIn, pieceLines, refusedLine, reported, reportOf, reelText};
 ghost use Rattle.report_lines.specs.Machine.{Reports, roomMax};
 use crate::fields::put_answer;
 use crate::fields::put_number;
@@ -23,8 +23,7 @@ use text::put_bytes;
 // A line for each piece, of which there are at most 128.
 fn put_pieces(reel: Reel, out: &mut [u8]) -> usize
     requires { ⌜ (Held reel) × (126 * 128 ≤ length (now out)) ⌝ }
-    ensures { λ r. ⌜ Put (now (out .entry)) 0 (pieceLines (scans reel) (length (scans reel) - 1)) r
-        (now (out .exit)) ⌝ }
+    ensures { λ r. ⌜ Put (now (out .entry)) 0 (pieceLines (scans reel) (piecesIn (scans reel))) r (now (out .exit)) ⌝ }
     ensures { λ r. ⌜ r ≤ 126 * 128 ⌝ }
 {
     let count = reel.count();

@@ -9,22 +9,11 @@ use Rattle.calls.proofs.Standing.{standing-after}
 use Rattle.calls.proofs.Replies.{value-close, trend-close, total-is-exact}
 use Rattle.reel.specs.Machine.{scans, Held, Does}
 use Rattle.reel.specs.declared.held.Reel.{Reel}
-use Rattle.reel.proofs.Contracts.{empty-is, clear-does, append-does, correct-does, read-does, write-does, value-does, trend-does, total-does}
-use Rattle.sequences.specs.Called.{Outcome, Called, by-clear, by-append, by-correct, by-read, by-write, by-value, by-trend, by-total}
+use Rattle.reel.proofs.Contracts.{empty-is}
+use Rattle.sequences.specs.Called.{Outcome, Called}
 use Rattle.sequences.specs.Sequences.{Right, Sequences}
 use Rattle.sequences.proofs.Runs.{every-call}
-
--- a call does what its contract says
-called-does : {call : Call} {given handed : Reel} {outcome : Outcome} → Called call given outcome handed → Held given →
-    Does call given (outcome .answer) handed (outcome .output)
-called-does (by-clear given handed contract) held = clear-does given handed held contract
-called-does (by-append κs given x C handed contract) held = append-does given handed held κs x C contract
-called-does (by-correct κs given k C handed contract) held = correct-does given handed held κs k C contract
-called-does (by-read κs given bytes handed contract) held = read-does given handed held κs bytes contract
-called-does (by-write κs given out after handed contract) held = write-does given handed held κs out after contract
-called-does (by-value given x handed contract) held = value-does given handed held x contract
-called-does (by-trend given x handed contract) held = trend-does given handed held x contract
-called-does (by-total given i j handed contract) held = total-does given handed held i j contract
+use Rattle.sequences.proofs.Called.{called-does}
 
 -- of a call on a held reel, all that demand 3 says
 right : {call : Call} {given handed : Reel} {outcome : Outcome} (standing : List Scan) → Standing standing →

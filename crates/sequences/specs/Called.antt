@@ -27,8 +27,9 @@ outcome handed out = record { answer = handed .answer; output = out }
 
 -- what one call does: if what its function requires holds (`Pre`), then what it ensures does (`Post`). Their
 -- arguments are the function's, its result, and its arguments once more as it leaves them; `tt` ends a list of
--- arguments, and `κs` is how long a lent slice lives. "Each read brings a block of its own and each write an output
--- of its own": `now` of a slice is what it holds, of the output before the call (`out`) and after it (`after`)
+-- arguments, and `κs` is how long a lent slice lives. Document 01: "Each read brings a block of its own and each write
+-- an output of its own": `now` of a slice is what it holds, of the output before the call (`out`) and after it
+-- (`after`)
 pub data Called : Call → Reel → Outcome → Reel → Type 0 where
   by-clear : (given : Reel) (handed : Handed) →
       (clear-reads.Pre tt (given, tt) →

@@ -1,3 +1,4 @@
 pub mod Runs
 pub mod Called
+pub mod RoundTrips
 pub mod Sequences

@@ -6,7 +6,7 @@ use mathlib.Core.List.{List, [], _∷_}
 abbrev pub Step : Type 0 → Type 0 → Type 0 → Type 1
 Step Call State Answer = Call → State → Answer → State → Type 0
 
--- each call gets what "the call before it handed back, refused or not"
+-- document 01: each call gets the reel that "the call before it handed back, refused or not"
 pub data Run {Call State Answer : Type 0} (S : Step Call State Answer) : State → List Call → Type 0 where
   done : {given : State} → Run S given []
   then : {given : State} {call : Call} {calls : List Call} (answer : Answer) (handed : State) →

@@ -1,13 +1,14 @@
 // Words from and to bytes, low byte first.
 ghost use mathlib.Core.Path.{_≡_};
-ghost use Prim.Native.Nat.{_+_, _*_, _≤_};
+ghost use Prim.Native.Nat.{_+_, _*_, _^_, _≤_, _<_};
 ghost use lib.ListN.{getD, length};
 ghost use lib.Seq.{sets};
-ghost use Rattle.block.specs.Bytes.{bytesOf, words};
+ghost use Rattle.block.specs.Bytes.{Below, bytesOf, words};
 
-// Word k of these bytes, and 0 past the last one.
+// Word k of these bytes, and 0 past the last one. Who reads a word of them knows that all are bytes, below 2^8.
 pub fn load(bytes: &[u8], k: usize) -> u32
     ensures { λ r. ⌜ r ≡ getD (words (now (bytes .entry))) k 0 ⌝ }
+    ensures { λ _. ⌜ (k < length (words (now (bytes .entry))) → Below (2 ^ 8) (now (bytes .entry))) ⌝ }
 {
     if bytes.len() / 4 <= k {
         return 0;

@@ -25,7 +25,8 @@ refuses-by call r cause held e = record {
   replies = sym (refusal-replies call (scans r) e);
   leaves = sym (refusal-leaves call (scans r) e);
   held = held;
-  kept = λ q. refl;
+  refusalKeeps = λ n q. refl;
+  queryKeeps = λ q. refl;
   writes = sym (refusal-writes call (scans r) e);
 }
 
@@ -45,7 +46,8 @@ accepts call r next held e does answer none-lent is room count graded =
       replies = sym (acceptance-replies call (scans r) e ∙ answer);
       leaves = leaves;
       held = record { filled = record { room = room; count = count; graded = graded }; standing = rw leaves (standing-after call (scans r) (held .standing)) };
-      kept = λ q. absurd (true≢false (sym does ∙ q e));
+      refusalKeeps = λ n q. cc q;
+      queryKeeps = λ q. absurd (true≢false (sym does ∙ q));
       writes = sym (acceptance-writes call (scans r) e ∙ none-lent);
     }
 
@@ -56,6 +58,7 @@ answers call r z w out held e answer is stays fills = record {
   replies = ap number is ∙ sym (acceptance-replies call (scans r) e ∙ answer);
   leaves = sym (acceptance-leaves call (scans r) e ∙ stays);
   held = held;
-  kept = λ q. refl;
+  refusalKeeps = λ n q. refl;
+  queryKeeps = λ q. refl;
   writes = fills ∙ sym (acceptance-writes call (scans r) e);
 }

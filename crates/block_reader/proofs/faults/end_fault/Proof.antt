@@ -68,7 +68,7 @@ ends c =
     let a = c .before .before .before .before .args in
     let ws = words (a .block .now) in
     let b : length ws - 1 ≡ a .k = omega (arith, before-it (c .before)) in
-    the-last (length ws - 1) ws (a .k) (before-it (c .before)) ∙ ap₂ (λ n w. first (endCauses n (w ∷ []))) b (sym (c .load .ensures))
+    the-last (length ws - 1) ws (a .k) (before-it (c .before)) ∙ ap₂ (λ n w. first (endCauses n (w ∷ []))) b (sym (c .load .ensures .0))
 
 returns-3 : tie.Need-returns-3
 returns-3 c =

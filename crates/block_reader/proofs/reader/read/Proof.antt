@@ -4,7 +4,7 @@ use borrow.Author.Tests.{ltb-false}
 use mathlib.Core.List.{List, [], _∷_}
 use mathlib.Core.Option.{Option, none, some, Option·some-ne-none}
 use mathlib.Core.Path.{_≡_, refl, sym, _∙_, ap}
-use Prim.Native.Nat.{ℕ, _-_, _≤_}
+use Prim.Native.Nat.{ℕ, _-_, _≤_, _<_}
 use native.Mathlib.Omega.{arith}
 use lib.ListN.{length, getD}
 use Rattle.rounding.specs.Limits.{knotsMax}
@@ -15,7 +15,9 @@ use Rattle.scans.proofs.Causes.{first-found, first-later, quiet}
 use Rattle.knot.proofs.Numbers.{passed, failed}
 use Rattle.block.specs.Fields.{knotCount}
 use Rattle.block.specs.Bytes.{words}
+use Rattle.block.specs.Block.{block}
 use Rattle.block.specs.Reading.{lengthCauses, headerCauses, knotsCauses, wordsCauses, blockCauses, listOfWords, listOf}
+use Rattle.block.proofs.RoundTrips.{accepted-written}
 use Rattle.block_reader.specs.Machine.{Reads}
 use Rattle.block_reader.specs.declared.reader.Contents.{Contents}
 use Rattle.block_reader.proofs.reader.Come.{fault, list, refuses}
@@ -34,6 +36,11 @@ header-passed (w ∷ ws) e =
     let rest : length ws ≡ length (w ∷ ws) - 1 = omega arith in
     first-later (headerCauses w) (knotsCauses (length ws) (knotCount w) none ws) e ∙ ap (λ n. first (knotsCauses n (knotCount w) none ws)) rest
 
+-- there is a word
+header-there : (ws : List ℕ) → first (headerCauses (getD ws 0 0)) ≡ none → 0 < length ws
+header-there [] e = absurd (Option·some-ne-none _ e)
+header-there (w ∷ ws) e = omega arith
+
 header-listed : (ws : List ℕ) → first (headerCauses (getD ws 0 0)) ≡ none → listOfWords ws ≡ list ws (knotCount (getD ws 0 0))
 header-listed [] e = refl
 header-listed (w ∷ ws) e = refl
@@ -49,10 +56,13 @@ stopped-requires c κs = search needs
 
 -- a fault before the first knot
 stops : {r : Contents} {n : ℕ} (bs : List ℕ) (here : Option ℕ) → Numbers n here → (n ≡ 0 → ⊥) → ((k : ℕ) → here ≡ some k → first (blockCauses bs) ≡ some k) →
-    (r .refusal ≡ n) × (length (r .knots) ≡ knotsMax) × (r .count ≡ 0) → Reads r (first (blockCauses bs)) (listOf bs)
+    (r .refusal ≡ n) × (length (r .knots) ≡ knotsMax) × (r .count ≡ 0) →
+    (Reads r (first (blockCauses bs)) (listOf bs)) × (first (blockCauses bs) ≡ none → block (listOf bs) ≡ bs)
 stops {r} {n} bs here numbered d whole s =
-    let e : here ≡ some n = failed n numbered d in
-    refuses r (first (blockCauses bs)) here (listOf bs) (rw (s .0) numbered) (rw (s .0) e) (rw (s .0) (whole n e)) (s .1) (omega (arith, s .2))
+    let e : here ≡ some n = failed n numbered d in (
+      refuses r (first (blockCauses bs)) here (listOf bs) (rw (s .0) numbered) (rw (s .0) e) (rw (s .0) (whole n e)) (s .1) (omega (arith, s .2)),
+      λ none-found. absurd (Option·some-ne-none n (sym (whole n e) ∙ none-found)),
+    )
 
 returns : tie.Need-returns
 unfolding blockCauses
@@ -85,7 +95,7 @@ length-passed c =
 
 header-is : (c : tie.After-header-fault) → let bs = c .before .before .before .before .before .before .args .block .now in
     first (headerCauses (getD (words bs) 0 0)) ≡ refusal (c .header-fault .result)
-header-is c = sym (c .header-fault .ensures ∙ ap (λ w. first (headerCauses w)) (c .before .load .ensures))
+header-is c = sym (c .header-fault .ensures ∙ ap (λ w. first (headerCauses w)) (c .before .load .ensures .0))
 
 returns-2 : tie.Need-returns-2
 returns-2 c =
@@ -100,7 +110,7 @@ header-quiet : (c : tie.Else2) → let bs = c .before .before .before .before .b
 header-quiet c = header-is (c .before .before) ∙ passed (c .before .number2 .ensures) (c .if2 .left)
 
 count-is : (c : tie.After-knot-count) → let bs = c .before .before .before .before .before .before .before .before .before .args .block .now in c .knot-count .result ≡ knotCount (getD (words bs) 0 0)
-count-is c = c .knot-count .ensures ∙ ap knotCount (c .before .before .before .before .load .ensures)
+count-is c = c .knot-count .ensures ∙ ap knotCount (c .before .before .before .before .load .ensures .0)
 
 -- at most 129 knots
 counted : (c : tie.After-knot-count) → let bs = c .before .before .before .before .before .before .before .before .before .args .block .now in knotCount (getD (words bs) 0 0) ≤ knotsMax
@@ -122,9 +132,12 @@ unfolding listOf
 returns-3 c =
     let k = c .before in
     let e = k .before .before .before .before .before in
-    let ws = words (e .before .before .before .before .args .block .now) in
-    read-as (length-passed e ∙ header-passed ws (header-quiet (k .before)) ∙ ap (fault ws) (sym (count-is k)))
-    (header-listed ws (header-quiet (k .before)) ∙ ap (list ws) (sym (count-is k))) (c .read-knots .ensures)
+    let ws = words (e .before .before .before .before .args .block .now) in (
+      read-as (length-passed e ∙ header-passed ws (header-quiet (k .before)) ∙ ap (fault ws) (sym (count-is k)))
+          (header-listed ws (header-quiet (k .before)) ∙ ap (list ws) (sym (count-is k))) (c .read-knots .ensures),
+      λ none-found. accepted-written (e .before .before .before .before .args .block .now)
+          (k .before .before .before .before .load .ensures .1 (header-there ws (header-quiet (k .before)))) none-found,
+    )
   where
     read-as : {r : Contents} {f g : Option ℕ} {l m : List Scan} → g ≡ f → m ≡ l → Reads r f l → Reads r g m
     read-as p q reads = rw (p, q) reads

@@ -85,10 +85,10 @@ module _ (g : After-grade) where
   word-passed =
       let n = g .before .before in
       let l = n .before .before in
-      sym (ap (λ u. first (knotCauses (neighbour (between g .words .last)) u)) (l .load .ensures)) ∙ sym (n .before .knot-fault .ensures) ∙ passed (n .number2 .ensures) (g .before .if2 .left)
+      sym (ap (λ u. first (knotCauses (neighbour (between g .words .last)) u)) (l .load .ensures .0)) ∙ sym (n .before .knot-fault .ensures) ∙ passed (n .number2 .ensures) (g .before .if2 .left)
 
   grade-is : g .grade .result ≡ grade (getD (the-words (between g)) (between g .words .i) 0)
-  grade-is = g .grade .ensures ∙ ap grade (g .before .before .before .before .load .ensures)
+  grade-is = g .grade .ensures ∙ ap grade (g .before .before .before .before .load .ensures .0)
 
   grade-most : g .grade .result ≤ gradeMax
   grade-most = omega (arith, g .grade .ensures)
@@ -160,9 +160,9 @@ loop-again c =
     let at = the-words (between g) in
     let i = between g .words .i in
     let j = l .before .loop .j in
-    stored at i (g .grade .result) j (l .before .loop .coefficients) (record { sfits = c .payload .ok }) (c .payload .ensures ∙ ap payload (c .before .before .before .load2 .ensures))
+    stored at i (g .grade .result) j (l .before .loop .coefficients) (record { sfits = c .payload .ok }) (c .payload .ensures ∙ ap payload (c .before .before .before .load2 .ensures .0))
     (one-more at i (g .grade .result) (l .before .loop .coefficients) j (l .before .loop .inv) (l .loop-test .taken)
-    (sym (ap kind (c .before .before .before .load2 .ensures)) ∙ sym (c .before .before .kind .ensures) ∙ c .before .match .keys1) (grade-most g))
+    (sym (ap kind (c .before .before .before .load2 .ensures .0)) ∙ sym (c .before .before .kind .ensures) ∙ c .before .match .keys1) (grade-most g))
   where
     stored : (ws : List ℕ) (i m j : ℕ) (l : List ℤ) {z y : ℤ} → SFits w32 z → z ≡ y → Coefficients ws i m (set l j y) (j + 1) → Coefficients ws i m (set l j (toZ w32 (ofZ w32 z))) (j + 1)
     stored ws i m j l fits e come = rw (toZ-ofZ fits, e) come
@@ -180,7 +180,7 @@ word-read c = c .before .before .before
 
 module _ (c : After-position) where
   position-is : c .position .result ≡ position (getD (the-words (between (word-read c))) (between (word-read c) .words .i) 0)
-  position-is = c .position .ensures ∙ ap position (word-read c .before .before .before .before .load .ensures)
+  position-is = c .position .ensures ∙ ap position (word-read c .before .before .before .before .load .ensures .0)
 
   all-read : Coefficients (the-words (between (word-read c))) (between (word-read c) .words .i) (word-read c .grade .result) (c .before .before .loop .coefficients) (word-read c .grade .result + 1)
   all-read =
@@ -270,7 +270,7 @@ returns-2 c =
     refuses _ (fault (the-words w) (the-count w)) (refusal (n .before .knot-fault .result)) _ (n .number2 .ensures) e
     (come .faults ∙ ap (λ m. first (knotsCauses (length (the-words w) - 1) m (neighbour (w .words .last)) (drop (w .words .i) (the-words w)))) one ∙
     knot-found (neighbour (w .words .last)) (length (the-words w) - 1) (the-count w - (w .words .k + 1)) (the-words w) (w .words .i)
-    (sym (ap (λ u. first (knotCauses (neighbour (w .words .last)) u)) (l .load .ensures)) ∙ sym (n .before .knot-fault .ensures) ∙ e))
+    (sym (ap (λ u. first (knotCauses (neighbour (w .words .last)) u)) (l .load .ensures .0)) ∙ sym (n .before .knot-fault .ensures) ∙ e))
     (come .room) (w .before .before .before .pre)
 
 returns-3 : tie.Need-returns-3 Inv-loop μ-loop Inv-words μ-words
@@ -283,7 +283,7 @@ returns-3 c =
     (from-wrong (the-words w) (the-count w) (w .words .knots) (w .words .last) (w .words .k) (w .words .i) (w .words .inv) (one-more-knot g)
     (position (getD (the-words w) (w .words .i) 0)) (g .grade .result) (l .before .loop .coefficients) (word-passed g) refl (grade-is g)
     (l .before .loop .j) (l .before .loop .inv) (l .loop-test .taken)
-    (λ e. c .before .match .rest .1 (c .before .before .kind .ensures ∙ ap kind (c .before .before .before .load2 .ensures) ∙ e)) ∙
+    (λ e. c .before .match .rest .1 (c .before .before .kind .ensures ∙ ap kind (c .before .before .before .load2 .ensures .0) ∙ e)) ∙
     one)
     (w .words .inv .room) (count-most g)
   where

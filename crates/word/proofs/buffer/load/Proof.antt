@@ -7,13 +7,15 @@ use lib.Bits.{bitOr}
 use lib.ListN.{getD, List·getD-eq-default}
 use mir.Facts.{fits-8-32}
 use Rattle.block.specs.Bytes.{joined, words}
-use Rattle.block.proofs.Bytes.{length-words, word-at}
+use Rattle.block.proofs.Bytes.{below-all, length-words, word-at}
 use Rattle.word.proofs.Shifts.{put}
 use Rattle.word.proofs.buffer.load.Statement.{statement}
 use Rattle.word.proofs.buffer.load.Tie as tie
 
 returns : tie.Need-returns
-returns c = let bs = c .before .args .bytes .now in sym (List·getD-eq-default (words bs) 0 (omega (arith, length-words bs)))
+returns c =
+    let bs = c .before .args .bytes .now in
+    (sym (List·getD-eq-default (words bs) 0 (omega (arith, length-words bs))), λ h. absurd (omega (arith, length-words bs)))
 
 mul-at : tie.Need-mul-at
 mul-at c = search needs
@@ -62,9 +64,12 @@ returns-2 c =
     let b = c .before .before .before .before .before in
     let bs = b .args .bytes .now in
     let k = b .args .k in
-    let byte = c .shared-slice-known4 .given in
-    rw (word-at bs k (omega arith))
-    (four (getD bs (4 * k) 0) (getD bs (4 * k + 1) 0) (getD bs (4 * k + 2) 0) (getD bs (4 * k + 3) 0) (byte (4 * k) .fits) (byte (4 * k + 1) .fits) (byte (4 * k + 2) .fits) (byte (4 * k + 3) .fits))
+    let byte = c .shared-slice-known4 .given in (
+      rw (word-at bs k (omega arith))
+          (four (getD bs (4 * k) 0) (getD bs (4 * k + 1) 0) (getD bs (4 * k + 2) 0) (getD bs (4 * k + 3) 0)
+          (byte (4 * k) .fits) (byte (4 * k + 1) .fits) (byte (4 * k + 2) .fits) (byte (4 * k + 3) .fits)),
+      λ h. below-all (2 ^ 8) bs (λ i. byte i .fits),
+    )
 
 pub load-spec : {M : Type 1} → statement M
 load-spec =

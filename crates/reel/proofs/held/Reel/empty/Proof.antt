@@ -8,7 +8,10 @@ use Rattle.reel.proofs.held.Reel.empty.Tie as tie
 
 returns : tie.Need-returns
 unfolding scans
-returns c = ((record { filled = record { room = refl; count = omega arith; graded = λ k h. absurd (omega arith) }; standing = standing-none }, refl), record { knots = refl; gap = refl; grade = refl; size = refl })
+returns c = (
+  (record { filled = record { room = refl; count = omega arith; graded = λ k h. absurd (omega arith) }; standing = standing-none }, refl),
+  ((refl, refl), (refl, refl)),
+)
 
 pub empty-spec : {M : Type 1} → statement M
 empty-spec = tie.close (tie.spec returns)
