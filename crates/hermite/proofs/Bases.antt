@@ -1,4 +1,4 @@
--- What each base comes to, multiplied out for all grades 0 to 7: the facts about formula (1) that are decided by computing.
+-- What each base comes to, multiplied out for all grades 0 to 7: the facts about formula (1) of source document 000 that are decided by computing.
 use mathlib.Core.Path.{_≡_, refl}
 use mathlib.Core.Bool.{cond}
 use Prim.Native.Nat.{ℕ, _+_, _≤_}

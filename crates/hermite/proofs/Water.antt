@@ -12,7 +12,7 @@ use Rattle.hermite.specs.Water.{waterUnit, integral, c, weightedSum}
 use Rattle.hermite.proofs.Linear.{dot-linear, of-blend}
 use Rattle.hermite.proofs.Bases.{left-base, right-base}
 
--- the exact integral is the weighted sum of formulas (11) to (13)
+-- the exact integral is the weighted sum of formulas (11) to (13) of source document 001
 pub integral-is : (m n : ℕ) → m ≤ 7 → n ≤ 7 → (p q : ℕ → ℤ) → integral (blend m n p q) ≡ weightedSum m n p q
 unfolding integral weightedSum
 integral-is m n hm hn p q =

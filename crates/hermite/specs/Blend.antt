@@ -17,8 +17,8 @@ abbrev pub 1-s : Polynomial
 unfoldable pub rightWeights : (ℕ → ℤ) → ℕ → ℤ
 rightWeights q j = sign j *ℤ q j
 
--- the terms of order j, with its weight w, of a double sum of formula (1): the sum, over i from 0 to m−j, of
--- binomial(n+i, i) × w × x^(i+j) × y^(n+1)
+-- the terms of order j, with its weight w, of a double sum of formula (1) of source document 000: the sum, over i from
+-- 0 to m−j, of binomial(n+i, i) × w × x^(i+j) × y^(n+1)
 unfoldable pub ofOrder : Polynomial → Polynomial → ℕ → ℕ → ℕ → ℤ → Polynomial
 ofOrder x y m n j w = sumₚ (m - j) (λ i. pos (binomial (n + i) i) ⊙ w ⊙ x ↑ (i + j) ⊗ y ↑ (n + 1))
 
@@ -26,7 +26,8 @@ ofOrder x y m n j w = sumₚ (m - j) (λ i. pos (binomial (n + i) i) ⊙ w ⊙ x
 unfoldable pub doubleSum : Polynomial → Polynomial → ℕ → ℕ → (ℕ → ℤ) → Polynomial
 doubleSum x y m n w = sumₚ m (λ j. ofOrder x y m n j (w j))
 
--- the exact blend, formula (1): s and the left weights, then 1 − s and the right weights; its list is a_0 to a_(m+n+1)
+-- the exact blend, formula (1) of source document 000: s and the left weights, then 1 − s and the right weights; its
+-- list is a_0 to a_(m+n+1)
 unfoldable pub blend : ℕ → ℕ → (ℕ → ℤ) → (ℕ → ℤ) → Polynomial
 blend m n p q = doubleSum s 1-s m n p ⊕ doubleSum 1-s s n m (rightWeights q)
 

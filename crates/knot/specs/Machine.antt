@@ -39,7 +39,7 @@ pub record Filled (knots : List Knot) (n : ℕ) : Type 0 where
   pub count : n ≤ knotsMax
   pub graded : (k : ℕ) → k < n → Graded (knotIn knots k)
 
--- the paper's number of each cause
+-- document 01's number of each cause
 abbrev pub number : Refusal → ℕ
 number Refusals.Form = 1
 number Refusals.Full = 2

@@ -32,8 +32,8 @@ unfoldable pub firstPast : List Scan → ℕ → ℕ → ℕ → ℕ
 firstPast scans x k zero = k
 firstPast scans x k (suc c) = cond (ltb x (mark scans (suc k))) k (firstPast scans x (suc k) c)
 
--- "An inner knot belongs to the piece on its right, the last knot to the last piece": of all pieces the first that ends
--- after x, or else the last
+-- document 01: "An inner knot belongs to the piece on its right, the last knot to the last piece": of all pieces the
+-- first that ends after x, or else the last
 abbrev pub pieceAt : List Scan → ℕ → ℕ
 pieceAt scans x = firstPast scans x 0 (length scans - 2)
 
