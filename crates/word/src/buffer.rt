@@ -5,7 +5,7 @@ ghost use lib.ListN.{getD, length};
 ghost use lib.Seq.{sets};
 ghost use Rattle.block.specs.Bytes.{Below, bytesOf, words};
 
-// Word k of these bytes, and 0 past the last one. Who reads a word of them knows that all are bytes, below 2^8.
+// Word k of these bytes, and 0 past the last one. If there is a word k, then all the numbers are bytes, below 2^8.
 pub fn load(bytes: &[u8], k: usize) -> u32
     ensures { λ r. ⌜ r ≡ getD (words (now (bytes .entry))) k 0 ⌝ }
     ensures { λ _. ⌜ (k < length (words (now (bytes .entry))) → Below (2 ^ 8) (now (bytes .entry))) ⌝ }

@@ -67,16 +67,13 @@ pub fn knot_word(position: u16, grade: u8) -> u32
     ((position as u32) | ((grade as u32) << 16)) | (1 << 30)
 }
 
-// Of a coefficient word: bits 0 to 29, bit 29 the sign.
+// Of a coefficient word: bits 0 to 28, less bit 29, the sign.
 pub fn payload(word: u32) -> i32
     ensures { λ r. ⌜ r ≡ Fields·payload word ⌝ }
 {
-    let low = word & 0x3fff_ffff;
-    if low < 0x2000_0000 {
-        low as i32
-    } else {
-        low as i32 - 0x4000_0000
-    }
+    let low = word & 0x1fff_ffff;
+    let sign = (word >> 29) & 1;
+    low as i32 - (sign << 29) as i32
 }
 
 pub fn coefficient_word(c: i32) -> u32
