@@ -1,4 +1,5 @@
 pub mod Effects
+pub mod Changes
 pub mod Standing
 pub mod Replies
 pub mod Numbers

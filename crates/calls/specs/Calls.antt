@@ -80,7 +80,7 @@ says (value x) scans = number (valueAt scans x)
 says (trend x) scans = number (trendAt scans x)
 says (total i j) scans = number (totalOver scans i j)
 
--- the lent output, before an accepted call and after it; no bytes where nothing is lent
+-- the lent output as it was, and as an accepted call leaves it; no bytes where nothing is lent
 abbrev pub lent : Call → List ℕ
 lent clear = []
 lent (append x C) = []

@@ -41,6 +41,6 @@ pub record Does (call : Call) (given : Reel) (answer : Answer) (handed : Reel) (
   -- after a refusal the reel handed back is the very one given
   pub refusalKeeps : (n : ℕ) → replyOf answer ≡ refused n → handed ≡ given
   -- and so it is after a call that does not change the list: a write or a query
-  pub queryKeeps : changes call ≡ false → handed ≡ given
+  pub noChangeKeeps : changes call ≡ false → handed ≡ given
   -- all bytes of the output are the model's
   pub writes : out ≡ output call (scans given)

@@ -26,7 +26,7 @@ refuses-by call r cause held e = record {
   leaves = sym (refusal-leaves call (scans r) e);
   held = held;
   refusalKeeps = λ n q. refl;
-  queryKeeps = λ q. refl;
+  noChangeKeeps = λ q. refl;
   writes = sym (refusal-writes call (scans r) e);
 }
 
@@ -47,7 +47,7 @@ accepts call r next held e does answer none-lent is room count graded =
       leaves = leaves;
       held = record { filled = record { room = room; count = count; graded = graded }; standing = rw leaves (standing-after call (scans r) (held .standing)) };
       refusalKeeps = λ n q. cc q;
-      queryKeeps = λ q. absurd (true≢false (sym does ∙ q));
+      noChangeKeeps = λ q. absurd (true≢false (sym does ∙ q));
       writes = sym (acceptance-writes call (scans r) e ∙ none-lent);
     }
 
@@ -59,6 +59,6 @@ answers call r z w out held e answer is stays fills = record {
   leaves = sym (acceptance-leaves call (scans r) e ∙ stays);
   held = held;
   refusalKeeps = λ n q. refl;
-  queryKeeps = λ q. refl;
+  noChangeKeeps = λ q. refl;
   writes = fills ∙ sym (acceptance-writes call (scans r) e);
 }
