@@ -6,7 +6,7 @@ use Rattle.integer.specs.Sum.{sum}
 use Rattle.hermite.specs.Blend.{rightWeights}
 use Rattle.hermite.specs.Polynomial.{Polynomial, dot}
 
--- the parts of the unit: the least common multiple of 1 to 16
+-- totals are in 1/720,720 of a count × step: the least common multiple of 1 to 16
 abbrev pub waterUnit : ℕ
 waterUnit = 720720
 
@@ -15,7 +15,7 @@ unfoldable pub integral : Polynomial → ℤ
 integral a = dot a (λ i. pos (waterUnit / (i + 1)))
 
 -- the integral weights: c_0 = 720,720 × (m+1)/(m+n+2), c_j = c_(j−1) × j(m−j+1) / ((j+1)(m+n+2−j)).
--- At j = m+1 the factor m−j+1 is 0, and so is every later entry
+-- At j = m+1 the factor m−j+1 is 0, so this entry and every later one is 0
 unfoldable pub c : ℕ → ℕ → ℕ → ℕ
 c m n zero = waterUnit * (m + 1) / (m + n + 2)
 c m n (suc i) = let j = suc i in c m n i * (j * (m + 1 - j)) / ((j + 1) * (m + n + 2 - j))

@@ -18,7 +18,6 @@ use Rattle.calls.specs.Calls.{accepted, refused, read, replyTo, standingAfter}
 use Rattle.reel.specs.Machine.{Held, Does, scans, replyOf}
 use Rattle.reel.specs.declared.held.Reel.{Reel}
 use Rattle.reel.specs.declared.answer.Answer.{Answer}
-use Rattle.reel.specs.declared.answer.Answer.the-variants as Answers
 use Rattle.report_lines.specs.Report.{refusedLine, reportCauses, reported, reportOf}
 use Rattle.report_lines.specs.Machine.{Opens, refusalIn}
 

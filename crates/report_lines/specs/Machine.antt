@@ -2,8 +2,9 @@
 use mathlib.Core.List.{List, [], _∷_}
 use mathlib.Core.Option.{Option, none, some}
 use mathlib.Core.Path.{_≡_}
-use Prim.Native.Nat.{ℕ, suc, _≤_}
+use Prim.Native.Nat.{ℕ, suc, _*_, _-_, _≤_}
 use lib.ListN.{length, take}
+use Rattle.rounding.specs.Limits.{knotsMax}
 use Rattle.scans.specs.Scan.{Scan, at}
 use Rattle.scans.specs.RefusalTable.{first, tooFew}
 use Rattle.knot.specs.Machine.{refusal}
@@ -42,7 +43,14 @@ abbrev pub rowText : Row → List ℕ
 rowText row =
     pieceText (row .index) (row .from) (row .to) (replyOf (row .value)) (replyOf (row .trend)) (replyOf (row .total))
 
--- room for every report: 128 lines of at most 126 bytes and one of at most 47
+-- the greatest length of a piece's line, and room for such a line of every piece
+abbrev pub lineMax : ℕ
+lineMax = 126
+
+abbrev pub linesMax : ℕ
+linesMax = lineMax * (knotsMax - 1)
+
+-- room for every report: those lines, and the reel's of at most 47 bytes
 abbrev pub roomMax : ℕ
 roomMax = 16384
 

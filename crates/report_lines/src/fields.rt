@@ -5,7 +5,7 @@ ghost use lib.ListN.{length};
 ghost use Rattle.text.specs.Text.{Put, decimal};
 ghost use Rattle.reel.specs.Machine.{replyOf};
 ghost use Rattle.report_lines.specs.Report.{shown};
-ghost use Rattle.report_lines.specs.Machine.{rowText};
+ghost use Rattle.report_lines.specs.Machine.{lineMax, rowText};
 use crate::row::Row;
 use reel::Answer;
 use text::put_decimal;
@@ -48,9 +48,9 @@ pub(crate) fn put_answer(out: &mut [u8], at: usize, answer: Answer, behind: u8) 
 
 // The line of a piece.
 pub(crate) fn put_row(out: &mut [u8], at: usize, row: Row) -> usize
-    requires { ⌜ at + 126 ≤ length (now out) ⌝ }
+    requires { ⌜ at + lineMax ≤ length (now out) ⌝ }
     ensures { λ r. ⌜ Put (now (out .entry)) at (rowText row) r (now (out .exit)) ⌝ }
-    ensures { λ r. ⌜ r ≤ at + 126 ⌝ }
+    ensures { λ r. ⌜ r ≤ at + lineMax ⌝ }
 {
     let indexed = put_number(out, at, row.index, b' ');
     let started = put_number(out, indexed, row.from, b' ');

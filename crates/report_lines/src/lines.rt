@@ -1,12 +1,12 @@
 // The lines of the report, and the report of a block.
 ghost use mathlib.Core.Option.{none};
-ghost use Prim.Native.Nat.{_+_, _*_, _-_, _≤_};
+ghost use Prim.Native.Nat.{_+_, _≤_};
 ghost use lib.ListN.{length};
 ghost use Rattle.text.specs.Text.{Put};
 ghost use Rattle.knot.specs.Machine.{number};
 ghost use Rattle.reel.specs.Machine.{Held, replyOf, scans};
 ghost use Rattle.report_lines.specs.Report.{piecesIn, pieceLines, refusedLine, reported, reportOf, reelText};
-ghost use Rattle.report_lines.specs.Machine.{Reports, roomMax};
+ghost use Rattle.report_lines.specs.Machine.{Reports, linesMax, roomMax};
 use crate::fields::put_answer;
 use crate::fields::put_number;
 use crate::fields::put_row;
@@ -22,9 +22,9 @@ use text::put_bytes;
 
 // A line for each piece, of which there are at most 128.
 fn put_pieces(reel: Reel, out: &mut [u8]) -> usize
-    requires { ⌜ (Held reel) × (126 * 128 ≤ length (now out)) ⌝ }
+    requires { ⌜ (Held reel) × (linesMax ≤ length (now out)) ⌝ }
     ensures { λ r. ⌜ Put (now (out .entry)) 0 (pieceLines (scans reel) (piecesIn (scans reel))) r (now (out .exit)) ⌝ }
-    ensures { λ r. ⌜ r ≤ 126 * 128 ⌝ }
+    ensures { λ r. ⌜ r ≤ linesMax ⌝ }
 {
     let count = reel.count();
     let mut at = 0;

@@ -6,8 +6,8 @@ use Rattle.hermite.specs.HalfSum.{valueUnit, g}
 use Rattle.hermite.specs.Slope.{primed}
 use Rattle.rounding.specs.Scaling.{scaled, scaledTimes}
 
--- step 2, u as it stands at i, which is m less the k rounds made: at m it is 65,536 × g_m, and at each i below
--- the u before it, scaled by a/D, plus 65,536 × g_i
+-- step 2: u at i, after k rounds from i + k, which is m. After no round it is 65,536 × g_m; each round scales the u
+-- before it by a/D and adds 65,536 × g_i
 unfoldable pub descended : (ℕ → ℤ) → ℕ → ℕ → ℕ → ℕ → ℤ
 descended G a D zero i = pos valueUnit *ℤ G i
 descended G a D (suc k) i = scaled (descended G a D k (suc i)) a D +ℤ pos valueUnit *ℤ G i

@@ -13,7 +13,7 @@ pub record Piece : Type 0 where
   pub left : List ℤ
   pub right : List ℤ
 
--- the piece of these
+-- the piece of h steps with these two lists
 abbrev pub piece : ℕ → List ℤ → List ℤ → Piece
 piece h left right = record { h = h; left = left; right = right }
 
@@ -28,7 +28,7 @@ n P = length (P .right) - 1
 abbrev pub weight : ℕ → List ℤ → ℕ → ℤ
 weight h C j = getD C j (pos 0) *ℤ pos (h ^ j)
 
--- the weights p_j of the left knot and q_j of the right one
+-- p_j, the left weights, and q_j; the right weights are (−1)^j × q_j (`rightWeights` of hermite)
 abbrev pub p : Piece → ℕ → ℤ
 p P = weight (P .h) (P .left)
 

@@ -10,12 +10,12 @@ use Rattle.scans.specs.SizeRule.{sizeRule}
 use Rattle.scans.specs.RefusalTable.{Cause, tooMany, badSize, outside, tooFew, noKnot, noRange}
 use Rattle.scans.specs.RefusalTable.{listCauses, positionCauses, sizeCauses}
 
--- append, with so many knots held and this last one: 2, 3, 4, 5, 6
+-- append, where `count` knots are held and `last` is the last of them: 2, 3, 4, 5, 6
 abbrev pub appendCauses : ℕ → Option Scan → ℕ → List ℤ → List Cause
 appendCauses count last x C =
     tooMany (count + 1) ∷ listCauses (length C) ++ positionCauses last x ++ sizeCauses last (scanOf x C)
 
--- correct of knot k of so many, which lies at x between these neighbours: 9, 3, 6
+-- correct of knot k, where `count` knots are held; it lies at x, between the neighbours `left` and `right`: 9, 3, 6
 abbrev pub correctCauses : ℕ → ℕ → Option Scan → ℕ → Option Scan → List ℤ → List Cause
 correctCauses k count left x right C =
     noKnot k count ∷ listCauses (length C) ++ badSize (sizeRule left (scanOf x C) right) ∷ []

@@ -27,7 +27,7 @@ pub record InReel (scans : List Scan) (x : ℕ) : Type 0 where
   pub first : mark scans 0 ≤ x
   pub last : x ≤ mark scans (length scans - 1)
 
--- the first of piece k and the c pieces after it that ends after x, or else the last of them
+-- of the pieces k to k + c, the first whose right end lies after x; if there is none, piece k + c
 unfoldable pub firstPast : List Scan → ℕ → ℕ → ℕ → ℕ
 firstPast scans x k zero = k
 firstPast scans x k (suc c) = cond (ltb x (mark scans (suc k))) k (firstPast scans x (suc k) c)

@@ -10,7 +10,7 @@ pub record Scan : Type 0 where
   pub position : ℕ
   pub coefficients : List ℤ
 
--- the scan of these
+-- the scan at x with the coefficients C
 abbrev pub scanOf : ℕ → List ℤ → Scan
 scanOf x C = record { position = x; coefficients = C }
 

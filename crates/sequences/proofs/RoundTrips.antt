@@ -8,18 +8,18 @@ use Rattle.sequences.specs.RoundTrips.{WriteRead, ReadWrite}
 use Rattle.sequences.proofs.Called.{called-does, called-again}
 
 pub write-read : WriteRead
-write-read written after given handed wrote outcome out n held-written writes answer held reads =
-    let w = called-does writes held-written in
-    let r = called-does reads held in
-    let back = written-read (scans written) (held-written .standing) out n (sym (w .replies) ∙ answer) (scans given) in
+write-read given handed other back wrote outcome out n held writes answer held-other reads =
+    let w = called-does writes held in
+    let r = called-does reads held-other in
+    let model = written-read (scans given) (held .standing) out n (sym (w .replies) ∙ answer) (scans other) in
     let bytes = ap (λ bs. read (take n bs)) (w .writes) in
     record {
-      accepts = r .replies ∙ ap (λ call. replyTo call (scans given)) bytes ∙ back .0;
-      same = r .leaves ∙ ap (λ call. standingAfter call (scans given)) bytes ∙ back .1;
+      accepts = r .replies ∙ ap (λ call. replyTo call (scans other)) bytes ∙ model .0;
+      leaves = r .leaves ∙ ap (λ call. standingAfter call (scans other)) bytes ∙ model .1;
     }
 
 pub read-write : ReadWrite
-read-write given handed after taken outcome bytes out held reads ok writes =
+read-write given handed back taken outcome bytes out held reads ok writes =
     let r = called-does reads held in
     let again = called-again reads held ok in
     let w = called-does writes (r .held) in

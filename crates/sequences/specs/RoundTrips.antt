@@ -10,26 +10,27 @@ use Rattle.reel.specs.Machine.{Held, replyOf, scans}
 use Rattle.reel.specs.declared.held.Reel.{Reel}
 use Rattle.sequences.specs.Called.{Outcome, Called}
 
--- a read accepts, and the reel that it hands back has the same scans as the one that was written
-pub record ReadBack (outcome : Outcome) (handed written : Reel) : Type 0 where
+-- a read accepts, and the reel `back` that it hands back has the scans of the reel `given`, which was written
+pub record ReadBack (outcome : Outcome) (back given : Reel) : Type 0 where
   pub accepts : replyOf (outcome .answer) ≡ accepted
-  pub same : scans handed ≡ scans written
+  pub leaves : scans back ≡ scans given
 
--- the first: where a write of any reel into any output answers a number n, any read, by any reel, that is given the
--- first n bytes of that output
+-- the first: a write of any held reel into any output answers a number n; then any read, by any held reel, of the first
+-- n bytes of that output satisfies `ReadBack`
 abbrev pub WriteRead : Type 0
-WriteRead = (written after given handed : Reel) (wrote outcome : Outcome) (out : List ℕ) (n : ℕ) →
-    Held written → Called (write out) written wrote after → replyOf (wrote .answer) ≡ number (pos n) →
-    Held given → Called (read (take n (wrote .output))) given outcome handed → ReadBack outcome handed written
+WriteRead = (given handed other back : Reel) (wrote outcome : Outcome) (out : List ℕ) (n : ℕ) →
+    Held given → Called (write out) given wrote handed → replyOf (wrote .answer) ≡ number (pos n) →
+    Held other → Called (read (take n (wrote .output))) other outcome back → ReadBack outcome back given
 
--- into an output with room for them, a write answers the number of these bytes; they stand first in the output, and
--- the bytes after them are as they were
+-- into an output with room for these bytes, a write answers their number; they stand first in the output, and the bytes
+-- after them are as they were
 pub record WrittenAgain (bytes out : List ℕ) (outcome : Outcome) : Type 0 where
   pub counts : length bytes ≤ length out → replyOf (outcome .answer) ≡ number (pos (length bytes))
   pub puts : length bytes ≤ length out → outcome .output ≡ bytes ++ drop (length bytes) out
 
--- the second: where a read by any reel accepts these bytes, any write, into any output, of the reel that it hands back
+-- the second: a read by any held reel accepts these bytes; then any write, into any output, of the reel that it hands
+-- back satisfies `WrittenAgain`
 abbrev pub ReadWrite : Type 0
-ReadWrite = (given handed after : Reel) (taken outcome : Outcome) (bytes out : List ℕ) →
+ReadWrite = (given handed back : Reel) (taken outcome : Outcome) (bytes out : List ℕ) →
     Held given → Called (read bytes) given taken handed → replyOf (taken .answer) ≡ accepted →
-    Called (write out) handed outcome after → WrittenAgain bytes out outcome
+    Called (write out) handed outcome back → WrittenAgain bytes out outcome

@@ -1,21 +1,22 @@
 -- Document 01, "Sequences and standing scans": calls made one after the other, and what holds at every one of them.
--- Which calls these are, what passes from one to the next, and what each answers is left open here.
+-- Which calls these are (`Action`), what passes from one to the next (`State`), what comes of each (`Result`) and what
+-- stands in the model (`Model`) is left open here.
 use mathlib.Core.List.{List, [], _∷_}
 
--- what one call does: what it gets from the call before it, its answer, and what it hands to the next
+-- what one call does: what it gets from the call before it, what comes of it, and what it hands to the next
 abbrev pub Step : Type 0 → Type 0 → Type 0 → Type 1
-Step Call State Answer = Call → State → Answer → State → Type 0
+Step Action State Result = Action → State → Result → State → Type 0
 
 -- document 01: each call gets the reel that "the call before it handed back, refused or not"
-pub data Run {Call State Answer : Type 0} (S : Step Call State Answer) : State → List Call → Type 0 where
+pub data Run {Action State Result : Type 0} (S : Step Action State Result) : State → List Action → Type 0 where
   done : {given : State} → Run S given []
-  then : {given : State} {call : Call} {calls : List Call} (answer : Answer) (handed : State) →
-      S call given answer handed → Run S handed calls → Run S given (call ∷ calls)
+  then : {given : State} {action : Action} {others : List Action} (result : Result) (handed : State) →
+      S action given result handed → Run S handed others → Run S given (action ∷ others)
 
--- `Right` holds of every call of a run, with what stands before it; then stands what `after` makes of that
-abbrev pub EveryCall : {Call State Answer Model : Type 0} {S : Step Call State Answer}
-    (Right : Call → Model → Answer → State → Type 0) (after : Call → Model → Model)
-    {given : State} {calls : List Call} → Run S given calls → Model → Type 0
-EveryCall Right after done standing = Unit {0}
-EveryCall Right after (then {call = call} answer handed does run) standing =
-    Right call standing answer handed × EveryCall Right after run (after call standing)
+-- `Fact` holds of every call of a run, with what stands before it; for the next call stands what `after` makes of that
+abbrev pub EveryCall : {Action State Result Model : Type 0} {S : Step Action State Result}
+    (Fact : Action → Model → Result → State → Type 0) (after : Action → Model → Model)
+    {given : State} {actions : List Action} → Run S given actions → Model → Type 0
+EveryCall Fact after done standing = Unit {0}
+EveryCall Fact after (then {action = action} result handed does run) standing =
+    Fact action standing result handed × EveryCall Fact after run (after action standing)

@@ -23,7 +23,7 @@ pub record Right (call : Call) (standing : List Scan) (outcome : Outcome) (hande
   pub replies : replyOf (outcome .answer) ≡ replyTo call standing
   -- the scans in the reel it hands back are exactly those that then stand
   pub leaves : scans handed ≡ standingAfter call standing
-  -- and so is every byte of a lent output
+  -- every byte of a lent output is as document 01 says
   pub writes : outcome .output ≡ output call standing
   -- for each value v, 65,536 × the exact blend − v is at least 0 and below 2(m+n+1), with m, n, h and r of the
   -- piece of a value

@@ -1,2 +1,2 @@
-// Demand 3, about every sequence of calls of the held reel. No functions: the statement in specs/, the theorem in
-// proofs/.
+// Demands 2 and 3 over the calls of the held reel: both round trips, and the theorem on every sequence of calls. No
+// functions: the statements in specs/, the theorems in proofs/.

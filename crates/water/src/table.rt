@@ -5,7 +5,7 @@ ghost use Rattle.water.specs.Machine.{IntegralWeights};
 const INTEGRAL_WEIGHTS: [u32; 512] = [
     // grades 0 and 0
     360360,
-    0, // above m
+    0, // c_1: above m it is 0
     0,
     0,
     0,
@@ -581,7 +581,7 @@ const INTEGRAL_WEIGHTS: [u32; 512] = [
     7,
 ];
 
-// The table, as it is laid out where it is used.
+// The table by value: each caller has it in its own memory.
 pub fn integral_weights() -> [u32; 512]
     ensures { λ t. ⌜ IntegralWeights t ⌝ }
 {
