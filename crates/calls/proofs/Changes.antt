@@ -2,26 +2,13 @@
 use mathlib.Core.Bool.{false}
 use mathlib.Core.List.{List, [], _∷_}
 use mathlib.Core.Path.{_≡_, refl, sym, _∙_, ap}
-use Prim.Native.Nat.{ℕ, zero, suc, _<_}
+use Prim.Native.Nat.{suc, _<_}
 use native.Mathlib.Omega.{arith}
 use lib.IntN.{pos}
-use lib.ListN.{length}
+use lib.ListN.{length, replicate, length-replicate, getD-replicate}
 use lib.Seq.{getD-set-same}
 use Rattle.scans.specs.Scan.{Scan, scanOf, at}
 use Rattle.calls.specs.Calls.{Call, clear, append, correct, read, write, value, trend, total, changed, changes}
-
--- a list with a scan k, all of them s
-abbrev copies : ℕ → Scan → List Scan
-copies zero s = s ∷ []
-copies (suc k) s = s ∷ copies k s
-
-copy-there : (k : ℕ) (s : Scan) → k < length (copies k s)
-copy-there zero s = omega arith
-copy-there (suc k) s = omega (arith, copy-there k s)
-
-copy-is : (k : ℕ) (s : Scan) → at (copies k s) k ≡ s
-copy-is zero s = refl
-copy-is (suc k) s = copy-is k s
 
 -- a call that leaves every list as it is, is none that changes it; so a write and every query hand back the very reel
 pub unchanged : (call : Call) → ((scans : List Scan) → changed call scans ≡ scans) → changes call ≡ false
@@ -29,8 +16,10 @@ unchanged clear stays = absurd (omega (arith, ap length (stays (scanOf 0 [] ∷ 
 unchanged (append x C) stays = absurd (omega (arith, ap length (stays [])))
 unchanged (correct k C) stays =
     let s : Scan = scanOf 0 (pos 0 ∷ C) in
-    let same : scanOf (at (copies k s) k .position) C ≡ s =
-    sym (getD-set-same (copies k s) k _ (scanOf 0 []) (copy-there k s)) ∙ ap (λ scans. at scans k) (stays (copies k s)) ∙ copy-is k s in
+    let l : List Scan = replicate (suc k) s in
+    let there : k < length l = omega (arith, length-replicate (suc k) s) in
+    let same : scanOf (at l k .position) C ≡ s =
+    sym (getD-set-same l k _ (scanOf 0 []) there) ∙ ap (λ scans. at scans k) (stays l) ∙ getD-replicate (suc k) k s (scanOf 0 []) (omega arith) in
     absurd (omega (arith, ap (λ t. length (t .coefficients)) same))
 unchanged (read bytes) stays = absurd (omega (arith, ap length (stays (scanOf 0 [] ∷ changed (read bytes) []))))
 unchanged (write out) stays = refl
