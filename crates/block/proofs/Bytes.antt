@@ -70,7 +70,8 @@ length-words (a ∷ b ∷ c ∷ d ∷ bs) = omega (arith, length-words bs)
 past-four : (a b c d : ℕ) (bs : List ℕ) (m n : ℕ) → m ≡ suc (suc (suc (suc n))) → getD (a ∷ b ∷ c ∷ d ∷ bs) m 0 ≡ getD bs n 0
 past-four a b c d bs m n e = rw e refl
 
-pub word-at : (bs : List ℕ) (k : ℕ) → k < length bs / 4 → getD (words bs) k 0 ≡ joined (getD bs (4 * k) 0) (getD bs (4 * k + 1) 0) (getD bs (4 * k + 2) 0) (getD bs (4 * k + 3) 0)
+pub word-at : (bs : List ℕ) (k : ℕ) → k < length bs / 4 → getD (words bs) k 0 ≡ joined (getD bs (4 * k) 0) (getD bs (4 * k + 1) 0)
+    (getD bs (4 * k + 2) 0) (getD bs (4 * k + 3) 0)
 word-at [] k h = absurd (omega arith)
 word-at (a ∷ []) k h = absurd (omega arith)
 word-at (a ∷ b ∷ []) k h = absurd (omega arith)
@@ -78,7 +79,12 @@ word-at (a ∷ b ∷ c ∷ []) k h = absurd (omega arith)
 word-at (a ∷ b ∷ c ∷ d ∷ bs) zero h = refl
 word-at (a ∷ b ∷ c ∷ d ∷ bs) (suc k) h =
     let past = past-four a b c d bs in
-    rw (past (4 * suc k) (4 * k) (omega arith), past (4 * suc k + 1) (4 * k + 1) (omega arith), past (4 * suc k + 2) (4 * k + 2) (omega arith), past (4 * suc k + 3) (4 * k + 3) (omega arith))
+    rw (
+      past (4 * suc k) (4 * k) (omega arith),
+      past (4 * suc k + 1) (4 * k + 1) (omega arith),
+      past (4 * suc k + 2) (4 * k + 2) (omega arith),
+      past (4 * suc k + 3) (4 * k + 3) (omega arith),
+    )
     (word-at bs k (omega arith))
 
 -- words stored behind one another

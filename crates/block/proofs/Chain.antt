@@ -44,7 +44,8 @@ module _ (scans : List Scan) (st : Standing scans) where
   placed-at : (k : ℕ) → k < length scans → Quiet (positionCauses (before scans k) (at scans k .position))
   placed-at zero h = (rw (le-ltb positionMax (at scans 0 .position) (st .position 0 h)), (refl, tt))
   placed-at (suc k) h =
-      rw (there scans k (omega arith)) (placed-after (at scans k) (at scans (suc k) .position) (st .position (suc k) h) (st .gapAtLeast k h) (st .gapAtMost k h))
+      rw (there scans k (omega arith)) (placed-after (at scans k) (at scans (suc k) .position) (st .position (suc k) h) (st .gapAtLeast k h)
+      (st .gapAtMost k h))
 
   first-at : 0 < length scans → sized 1 (leftList (at scans 0)) ≡ true
   first-at h = go (decLt 1 (length scans))
@@ -74,7 +75,8 @@ module _ (scans : List Scan) (st : Standing scans) where
 
   chain-from : (n k : ℕ) → k + n ≡ length scans → Chain (before scans k) (drop k scans)
   chain-from zero k e = rw (drop-of-length-le scans {i = k} (omega arith)) tt
-  chain-from (suc n) k e = rw (drop-cons scans k (scanOf 0 []) (omega arith)) (fit-at k (omega arith), rw (there scans k (omega arith)) at (chain-from n (suc k) (omega arith)))
+  chain-from (suc n) k e =
+      rw (drop-cons scans k (scanOf 0 []) (omega arith)) (fit-at k (omega arith), rw (there scans k (omega arith)) at (chain-from n (suc k) (omega arith)))
 
   pub chain : Chain none scans
   chain = chain-from (length scans) 0 (omega arith)

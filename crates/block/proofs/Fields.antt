@@ -6,7 +6,8 @@ use native.Mathlib.Decide.{decLt}
 use native.Mathlib.Omega.{arith}
 use lib.IntN.{ℤ, pos, negsuc}
 use Rattle.integer.specs.Within.{Within}
-use Rattle.block.specs.Fields.{kind, rest, wordOf, knotCount, edition, headerSpare, headerWord, position, grade, knotSpare, knotWord, payload, twosComplement, coefficientWord, wordsBefore, endWord}
+use Rattle.block.specs.Fields.{kind, rest, wordOf, knotCount, edition, headerSpare, headerWord, position, grade, knotSpare, knotWord, payload}
+use Rattle.block.specs.Fields.{twosComplement, coefficientWord, wordsBefore, endWord}
 
 kind-of : (k r : ℕ) → r < 2 ^ 30 → kind (wordOf k r) ≡ k
 kind-of k r h = omega arith

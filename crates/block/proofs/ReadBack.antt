@@ -20,7 +20,8 @@ use Rattle.block.specs.Fields.{kind, position, grade, knotSpare, knotWor
 use Rattle.block.specs.Bytes.{Below}
 use Rattle.block.specs.Block.{scanWords, knotsWords}
 use Rattle.block.specs.Reading.{coefficientCauses, scanFrom, knotsCauses, knotsFrom}
-use Rattle.block.proofs.Fields.{knot-kind, knot-position, knot-grade, knot-spare, twos-below, coefficient-kind, coefficient-payload, end-kind, end-before}
+use Rattle.block.proofs.Fields.{knot-kind, knot-position, knot-grade, knot-spare, twos-below, coefficient-kind, coefficient-payload, end-kind}
+use Rattle.block.proofs.Fields.{end-before}
 use Rattle.block.proofs.Bytes.{below-both}
 use Rattle.block.proofs.Reading.{untaken}
 use Rattle.block.proofs.Chain.{Fit, Chain}
@@ -63,7 +64,8 @@ module _ {last : Option Scan} (s : Scan) (f : Fit last s) (ws : List ℕ) where
   scan-back : scanFrom (knotOf s) (others s ws) ≡ s
   scan-back =
       ap₂ scanOf position-back
-      (ap (map payload) (take-at (map coefficientWord (s .coefficients)) ws (grade (knotOf s) + 1) words-back) ∙ payloads-again (s .coefficients) (f .coefficients))
+      (ap (map payload) (take-at (map coefficientWord (s .coefficients)) ws (grade (knotOf s) + 1) words-back) ∙
+      payloads-again (s .coefficients) (f .coefficients))
 
   after-back : drop (grade (knotOf s) + 1) (others s ws) ≡ ws
   after-back = drop-at (map coefficientWord (s .coefficients)) ws (grade (knotOf s) + 1) words-back
@@ -71,7 +73,8 @@ module _ {last : Option Scan} (s : Scan) (f : Fit last s) (ws : List ℕ) where
   knot-quiet : (b n : ℕ) → Quiet (knotsCauses b n (some s) ws) → Quiet (knotsCauses b (suc n) last (knotOf s ∷ others s ws))
   knot-quiet b n q =
       untaken b n last (knotOf s) (others s ws)
-      (both (eq-eqb (kind (knotOf s)) 1 (knot-kind (s .position) (Scan·grade s) near low)) (eq-eqb (knotSpare (knotOf s)) 0 (knot-spare (s .position) (Scan·grade s) near low)))
+      (both (eq-eqb (kind (knotOf s)) 1 (knot-kind (s .position) (Scan·grade s) near low))
+      (eq-eqb (knotSpare (knotOf s)) 0 (knot-spare (s .position) (Scan·grade s) near low)))
       (subst (λ x. Quiet (positionCauses last x)) (sym position-back) (f .placed))
       (subst (λ x. Quiet (coefficientCauses x (others s ws))) (sym length-back) (coefficients-quiet (s .coefficients) ws))
       (ap (follows last) scan-back ∙ f .size)

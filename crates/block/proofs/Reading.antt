@@ -18,7 +18,8 @@ use Rattle.scans.proofs.Causes.{Quiet, quiet, quiet-both, quiet-left, quiet-rig
 use Rattle.block.specs.Fields.{kind, knotCount, edition, headerSpare, position, grade, knotSpare, payload}
 use Rattle.block.specs.Bytes.{words}
 use Rattle.block.specs.Block.{editionNow}
-use Rattle.block.specs.Reading.{isHeader, isKnot, lengthCauses, headerCauses, knotCauses, coefficientCauses, scanFrom, knotsCauses, wordsCauses, blockCauses}
+use Rattle.block.specs.Reading.{isHeader, isKnot, lengthCauses, headerCauses, knotCauses, coefficientCauses, scanFrom, knotsCauses, wordsCauses}
+use Rattle.block.specs.Reading.{blockCauses}
 use Rattle.block.proofs.Steps.{sizeOn, afterWord, in-order}
 
 -- ---- words

@@ -15,10 +15,12 @@ use Rattle.scans.specs.Scan.{Scan, grade as Scan·grade}
 use Rattle.scans.specs.Standing.{Standing}
 use Rattle.scans.specs.RefusalTable.{first}
 use Rattle.scans.proofs.Causes.{Quiet, silent, quiet-both}
-use Rattle.block.specs.Fields.{kind, knotCount, edition, headerSpare, headerWord, position, grade, knotWord, payload, coefficientWord, wordsBefore, endWord}
+use Rattle.block.specs.Fields.{kind, knotCount, edition, headerSpare, headerWord, position, grade, knotWord, payload, coefficientWord, wordsBefore}
+use Rattle.block.specs.Fields.{endWord}
 use Rattle.block.specs.Bytes.{words, bytes, Below}
 use Rattle.block.specs.Block.{editionNow, scanWords, knotsWords, openWords, blockWords, block}
-use Rattle.block.specs.Reading.{isCoefficient, isEnd, lengthCauses, headerCauses, coefficientCauses, endCauses, scanFrom, knotsCauses, wordsCauses, blockCauses, knotsFrom, listOfWords, listOf}
+use Rattle.block.specs.Reading.{isCoefficient, isEnd, lengthCauses, headerCauses, coefficientCauses, endCauses, scanFrom, knotsCauses, wordsCauses}
+use Rattle.block.specs.Reading.{blockCauses, knotsFrom, listOfWords, listOf}
 use Rattle.block.proofs.Fields.{header-count, header-edition, header-spare, header-kind, header-again, knot-again, coefficient-again, end-again}
 use Rattle.block.proofs.Bytes.{below-both, bytes-again, length-bytes, words-again}
 use Rattle.block.proofs.Reading.{Header, Taken, taken, read-grade, Accepted, accepted}
@@ -55,8 +57,10 @@ knots-again b zero last ws q = end-word-again b ws q
 knots-again b (suc n) last [] q = absurd (true≢false (q .0))
 knots-again b (suc n) last (w ∷ ws) q =
     let t : Taken b n last w ws = taken b n last w ws q in
-    let ih : knotsWords (knotsFrom n (drop (grade w + 1) ws)) ++ endWord b ∷ [] ≡ drop (grade w + 1) ws = knots-again b n (some (scanFrom w ws)) (drop (grade w + 1) ws) (t .later) in
-    append-assoc (scanWords (scanFrom w ws)) (knotsWords (knotsFrom n (drop (grade w + 1) ws))) (endWord b ∷ []) ∙ ap (λ us. scanWords (scanFrom w ws) ++ us) ih ∙ scan-again w ws t
+    let ih : knotsWords (knotsFrom n (drop (grade w + 1) ws)) ++ endWord b ∷ [] ≡ drop (grade w + 1) ws =
+    knots-again b n (some (scanFrom w ws)) (drop (grade w + 1) ws) (t .later) in
+    append-assoc (scanWords (scanFrom w ws)) (knotsWords (knotsFrom n (drop (grade w + 1) ws))) (endWord b ∷ []) ∙
+    ap (λ us. scanWords (scanFrom w ws) ++ us) ih ∙ scan-again w ws t
 
 knots-count : (b n : ℕ) (last : Option Scan) (ws : List ℕ) → Quiet (knotsCauses b n last ws) → length (knotsFrom n ws) ≡ n
 knots-count b zero last ws q = refl
@@ -90,7 +94,8 @@ header-quiet n h =
     let w : ℕ = headerWord n editionNow in
     let count : knotCount w ≡ n = header-count n editionNow (omega arith) in (
       ap not (both (eq-eqb (kind w) 0 (header-kind n editionNow (omega arith) (omega arith)))
-          (both (eq-eqb (edition w) editionNow (header-edition n editionNow (omega arith) (omega arith))) (eq-eqb (headerSpare w) 0 (header-spare n editionNow (omega arith) (omega arith))))),
+          (both (eq-eqb (edition w) editionNow (header-edition n editionNow (omega arith) (omega arith)))
+          (eq-eqb (headerSpare w) 0 (header-spare n editionNow (omega arith) (omega arith))))),
       (le-ltb knotsMax (knotCount w) (rw count h), tt),
     )
 
@@ -109,7 +114,8 @@ module _ (scans : List Scan) (st : Standing scans) where
       let w : ℕ = headerWord (length scans) editionNow in
       let ws : List ℕ = knotsWords scans ++ endWord (length (openWords scans)) ∷ [] in
       quiet-both (headerCauses w) (knotsCauses (length ws) (knotCount w) none ws) (header-quiet (length scans) (st .count))
-      (subst₂ (λ b n. Quiet (knotsCauses b n none ws)) (sym after-length) (sym count-back) (knots-quiet (length (openWords scans)) open-length none scans (chain scans st)))
+      (subst₂ (λ b n. Quiet (knotsCauses b n none ws)) (sym after-length) (sym count-back)
+      (knots-quiet (length (openWords scans)) open-length none scans (chain scans st)))
 
   words-read : words (bytes (blockWords scans)) ≡ blockWords scans
   words-read =
@@ -122,7 +128,8 @@ unfolding block blockCauses
 written-accepted scans st =
     silent (blockCauses (block scans))
     (quiet-both (lengthCauses (length (block scans))) (wordsCauses (words (block scans)))
-    (subst (λ n. Quiet (lengthCauses n)) (sym (length-bytes (blockWords scans))) (length-quiet (length (blockWords scans)) (omega (arith, after-length scans st))))
+    (subst (λ n. Quiet (lengthCauses n)) (sym (length-bytes (blockWords scans)))
+    (length-quiet (length (blockWords scans)) (omega (arith, after-length scans st))))
     (subst (λ ws. Quiet (wordsCauses ws)) (sym (words-read scans st)) (words-quiet scans st)))
 
 pub written-list : (scans : List Scan) → Standing scans → listOf (block scans) ≡ scans

@@ -28,7 +28,13 @@ use Rattle.block.proofs.Reading.{Taken, taken, read-grade, Accepted, ac
 pub knots-length : (last : Option Scan) (scans : List Scan) → Chain last scans → length (knotsWords scans) ≤ 9 * length scans
 knots-length last [] c = omega arith
 knots-length last (s ∷ scans) c =
-    omega (arith, length-append (scanWords s) (knotsWords scans), length-map (s .coefficients) coefficientWord, c .0 .listed .atMost, knots-length (some s) scans (c .1))
+    omega (
+      arith,
+      length-append (scanWords s) (knotsWords scans),
+      length-map (s .coefficients) coefficientWord,
+      c .0 .listed .atMost,
+      knots-length (some s) scans (c .1),
+    )
 
 -- a header, the knots' words and the end word
 pub block-words : (scans : List Scan) → length (block scans) ≡ 4 * (2 + length (knotsWords scans))
@@ -39,7 +45,13 @@ block-words scans =
 pub block-length : (scans : List Scan) → Standing scans → length (block scans) ≤ blockMax
 unfolding block
 block-length scans st =
-    omega (arith, length-bytes (blockWords scans), length-append (knotsWords scans) (endWord (length (openWords scans)) ∷ []), knots-length none scans (chain scans st), st .count)
+    omega (
+      arith,
+      length-bytes (blockWords scans),
+      length-append (knotsWords scans) (endWord (length (openWords scans)) ∷ []),
+      knots-length none scans (chain scans st),
+      st .count,
+    )
 
 -- ---- the list of a block: what was read so far stands, and each knot may follow it
 
@@ -65,4 +77,5 @@ pub read-standing : (bs : List ℕ) → first (blockCauses bs) ≡ none → Stan
 unfolding listOf
 read-standing bs e =
     let a : Accepted bs = accepted bs e in
-    rw (a .wordsAre) (knots-standing (length (a .others)) (knotCount (a .head)) [] none (a .others) standing-none refl (omega (arith, a .header .count)) (a .knots))
+    rw (a .wordsAre) (knots-standing (length (a .others)) (knotCount (a .head)) [] none (a .others) standing-none refl (omega (arith, a .header .count))
+    (a .knots))

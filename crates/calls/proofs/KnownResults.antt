@@ -17,7 +17,8 @@ use Rattle.calls.specs.Calls.{replyTo}
 use Rattle.calls.specs.KnownResults.{KnownResults}
 
 pub known-results : KnownResults
-unfolding replyTo valueAt trendAt totalOver sumFrom firstPast value trend total Y1 Y2 Y3 scaledK lowerHalfSum halfSum descended scaledTimes scaled rounded g primed K sumK kappa weightedSum c rightWeights binomial sign sum
+unfolding replyTo valueAt trendAt totalOver sumFrom firstPast value trend total Y1 Y2 Y3 scaledK lowerHalfSum halfSum descended scaledTimes scaled
+    rounded g primed K sumK kappa weightedSum c rightWeights binomial sign sum
 known-results =
     record {
       value-half = refl;

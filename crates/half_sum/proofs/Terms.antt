@@ -27,7 +27,8 @@ module _ (c : List ℕ) (w : List ℤ) (entries : Entries c) (weights : Weights 
   entry-fits j = record { sfits = omega (arith, entries .small j) }
 
   pub machine-term : (j : ℕ) → j ≤ 7 → toZ w64 (getD c j 0) *ℤ toZ w64 (ofZ w64 (coefficient w j)) ≡ term c w j
-  machine-term j h = rw (toZ-ofZ (within-fits w64 (coefficient w j) (lit< tt) (weights .small j h)), toZ-pos w64 {n = getD c j 0} (omega (arith, entries .small j))) refl
+  machine-term j h =
+      rw (toZ-ofZ (within-fits w64 (coefficient w j) (lit< tt) (weights .small j h)), toZ-pos w64 {n = getD c j 0} (omega (arith, entries .small j))) refl
 
   term-within : (j : ℕ) → j ≤ 7 → Within (getD c j 0 * (7 * sizeMax)) (term c w j)
   term-within j h = within-mul (pos (getD c j 0)) (coefficient w j) (within-natural (getD c j 0)) (weights .small j h)

@@ -53,7 +53,8 @@ unfolding taylorLeft taylorRight integral c derivative counted kappa loweredBase
 all-left = sound (upto 7 (λ m. upto 7 (λ n. let e = s ↑ m ⊗ 1-s ↑ n in upto m (λ j.
     let b = base s 1-s m n j in let l = loweredBase s 1-s m n j in claim m n b l e (ofLeft m n j))))) refl
 
-all-right : (m : ℕ) → m ≤ 7 → (n : ℕ) → n ≤ 7 → (j : ℕ) → j ≤ n → Holds (claim m n (base 1-s s n m j) (loweredBase 1-s s n m j) (s ↑ m ⊗ 1-s ↑ n) (ofRight m n j))
+all-right : (m : ℕ) → m ≤ 7 → (n : ℕ) → n ≤ 7 → (j : ℕ) → j ≤ n →
+    Holds (claim m n (base 1-s s n m j) (loweredBase 1-s s n m j) (s ↑ m ⊗ 1-s ↑ n) (ofRight m n j))
 unfolding taylorLeft taylorRight integral c derivative counted kappa loweredBase dot ofOrder sumₚ _⊕_ _⊙_ _⊗_ _↑_ binomial sign
 all-right = sound (upto 7 (λ m. upto 7 (λ n. let e = s ↑ m ⊗ 1-s ↑ n in upto n (λ j.
     let b = base 1-s s n m j in let l = loweredBase 1-s s n m j in claim m n b l e (ofRight m n j))))) refl

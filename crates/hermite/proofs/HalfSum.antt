@@ -26,7 +26,8 @@ module _ (r D X Y : ℕ) (x x′ y y′ : ℤ) (ex : at r D 1 (x ∷ x′ ∷ []
       let e : m ≡ (m - i) + i = omega arith in
       at-⊗ r D m k ((x ∷ x′ ∷ []) ↑ i) ((y ∷ y′ ∷ []) ↑ k) (omega (arith, length-↑ x x′ i)) (omega (arith, length-↑ y y′ k)) ∙
       ap₂ (λ u v. u *ℤ v)
-      (ap (λ N. at r D N ((x ∷ x′ ∷ []) ↑ i)) e ∙ at-raise r D (m - i) i ((x ∷ x′ ∷ []) ↑ i) (omega (arith, length-↑ x x′ i)) ∙ ap (λ z. pos (D ^ (m - i)) *ℤ z) (at-↑ r D X x x′ ex i))
+      (ap (λ N. at r D N ((x ∷ x′ ∷ []) ↑ i)) e ∙ at-raise r D (m - i) i ((x ∷ x′ ∷ []) ↑ i) (omega (arith, length-↑ x x′ i)) ∙
+      ap (λ z. pos (D ^ (m - i)) *ℤ z) (at-↑ r D X x x′ ex i))
       (at-↑ r D Y y y′ ey k) ∙
       ap pos (turn (D ^ (m - i)) (X ^ i) (Y ^ k))
     where
@@ -52,7 +53,8 @@ module _ (r D X Y : ℕ) (x x′ y y′ : ℤ) (ex : at r D 1 (x ∷ x′ ∷ []
       row : (j : ℕ) → j ≤ m → F (ofOrder (x ∷ x′ ∷ []) (y ∷ y′ ∷ []) m n j (w j)) ≡ sum (m - j) (cell j)
       row j h =
           of-sum F (at-linear r D (m + (n + 1))) (m - j) _ ∙
-          sum-cong (m - j) _ _ (λ i b. of-multiples F (at-linear r D (m + (n + 1))) _ (w j) _ ∙ ap (λ z. pos (binomial (n + i) i) *ℤ (w j *ℤ z)) (at-powers m (i + j) (n + 1) (omega arith)))
+          sum-cong (m - j) _ _ (λ i b. of-multiples F (at-linear r D (m + (n + 1))) _ (w j) _ ∙
+          ap (λ z. pos (binomial (n + i) i) *ℤ (w j *ℤ z)) (at-powers m (i + j) (n + 1) (omega arith)))
 
       last-first : (b w z : ℤ) → b *ℤ (w *ℤ z) ≡ z *ℤ (b *ℤ w)
       last-first b w z = lets (b ∷ w ∷ z ∷ []) (λ ρ y. simp (y 0, y 1, y 2, terms) (solve ρ _ _ tt))
@@ -72,28 +74,34 @@ module _ (r D X Y : ℕ) (x x′ y y′ : ℤ) (ex : at r D 1 (x ∷ x′ ∷ []
           apart (pos (Y ^ (n + 1))) (pos (power k)) (g n w k)
 
 -- multiplied by 65,536 that is the half-sum without its rounding
-scaled-up : (m n a D Y : ℕ) (w : ℕ → ℤ) → Y ≡ D - a → pos valueUnit *ℤ (pos (Y ^ (n + 1)) *ℤ sum m (λ i. g n w i *ℤ pos (a ^ i * D ^ (m - i)))) ≡ unrounded m n a D w
+scaled-up : (m n a D Y : ℕ) (w : ℕ → ℤ) → Y ≡ D - a → pos valueUnit *ℤ
+    (pos (Y ^ (n + 1)) *ℤ sum m (λ i. g n w i *ℤ pos (a ^ i * D ^ (m - i)))) ≡ unrounded m n a D w
 unfolding unrounded unroundedDescent
 scaled-up m n a D Y w e =
     rw e (*ℤ-left-comm (pos valueUnit) (pos ((D - a) ^ (n + 1))) (sum m (λ i. g n w i *ℤ pos (a ^ i * D ^ (m - i))))) ∙
-    ap (λ z. pos ((D - a) ^ (n + 1)) *ℤ z) (sym (sum-* m (pos valueUnit) (λ i. g n w i *ℤ pos (a ^ i * D ^ (m - i)))) ∙ sum-cong m _ _ (λ i h. sym (*ℤ-assoc (pos valueUnit) (g n w i) (pos (a ^ i * D ^ (m - i))))))
+    ap (λ z. pos ((D - a) ^ (n + 1)) *ℤ z) (sym (sum-* m (pos valueUnit) (λ i. g n w i *ℤ pos (a ^ i * D ^ (m - i)))) ∙
+    sum-cong m _ _ (λ i h. sym (*ℤ-assoc (pos valueUnit) (g n w i) (pos (a ^ i * D ^ (m - i))))))
 
 module _ (r D : ℕ) (h : r ≤ D) where
   left-value : (m n : ℕ) (w : ℕ → ℤ) → pos valueUnit *ℤ at r D (m + (n + 1)) (doubleSum s 1-s m n w) ≡ unrounded m n r D w
-  left-value m n w = ap (λ z. pos valueUnit *ℤ z) (at-doubleSum r D r (D - r) (pos 0) (pos 1) (pos 1) (negsuc 0) (at-s r D) (at-1-s r D h) m n w) ∙ scaled-up m n r D (D - r) w refl
+  left-value m n w = ap (λ z. pos valueUnit *ℤ z) (at-doubleSum r D r (D - r) (pos 0) (pos 1) (pos 1) (negsuc 0) (at-s r D) (at-1-s r D h) m n w) ∙
+      scaled-up m n r D (D - r) w refl
 
   right-value : (m n : ℕ) (w : ℕ → ℤ) → pos valueUnit *ℤ at r D (m + (n + 1)) (doubleSum 1-s s m n w) ≡ unrounded m n (D - r) D w
-  right-value m n w = ap (λ z. pos valueUnit *ℤ z) (at-doubleSum r D (D - r) r (pos 1) (negsuc 0) (pos 0) (pos 1) (at-1-s r D h) (at-s r D) m n w) ∙ scaled-up m n (D - r) D r w (omega arith)
+  right-value m n w = ap (λ z. pos valueUnit *ℤ z) (at-doubleSum r D (D - r) r (pos 1) (negsuc 0) (pos 0) (pos 1) (at-1-s r D h) (at-s r D) m n w) ∙
+      scaled-up m n (D - r) D r w (omega arith)
 
   -- 65,536 × the blend at r/D, multiplied by D^(m+n+1)
-  pub blend-value : (m n : ℕ) (p q : ℕ → ℤ) → pos valueUnit *ℤ at r D (m + n + 1) (blend m n p q) ≡ unrounded m n r D p +ℤ unrounded n m (D - r) D (rightWeights q)
+  pub blend-value : (m n : ℕ) (p q : ℕ → ℤ) → pos valueUnit *ℤ at r D (m + n + 1) (blend m n p q) ≡ unrounded m n r D p +ℤ unrounded n m (D - r) D
+      (rightWeights q)
   unfolding blend
   blend-value m n p q =
       let e : m + n + 1 ≡ m + (n + 1) = omega arith in
       let f : m + n + 1 ≡ n + (m + 1) = omega arith in
       ap (λ z. pos valueUnit *ℤ z) (at-linear r D (m + n + 1) .sums (doubleSum s 1-s m n p) (doubleSum 1-s s n m (rightWeights q))) ∙
       *ℤ-distrib (pos valueUnit) (at r D (m + n + 1) (doubleSum s 1-s m n p)) (at r D (m + n + 1) (doubleSum 1-s s n m (rightWeights q))) ∙
-      ap₂ (λ u v. u +ℤ v) (ap (λ N. pos valueUnit *ℤ at r D N (doubleSum s 1-s m n p)) e ∙ left-value m n p) (ap (λ N. pos valueUnit *ℤ at r D N (doubleSum 1-s s n m (rightWeights q))) f ∙ right-value n m (rightWeights q))
+      ap₂ (λ u v. u +ℤ v) (ap (λ N. pos valueUnit *ℤ at r D N (doubleSum s 1-s m n p)) e ∙ left-value m n p)
+      (ap (λ N. pos valueUnit *ℤ at r D N (doubleSum 1-s s n m (rightWeights q))) f ∙ right-value n m (rightWeights q))
 
   -- Y1 and Y2; of grade −1 both sides are 0
   lowered-value : (x y : Polynomial) (a : ℕ) → ((m n : ℕ) (w : ℕ → ℤ) → pos valueUnit *ℤ at r D (m + (n + 1)) (doubleSum x y m n w) ≡ unrounded m n a D w) →
@@ -107,7 +115,8 @@ module _ (r D : ℕ) (h : r ≤ D) where
   -- Y3
   last-value : (m n : ℕ) (k : ℤ) → pos valueUnit *ℤ (k *ℤ at r D (m + n) (s ↑ m ⊗ 1-s ↑ n)) ≡ pos ((D - r) ^ n) *ℤ (pos (r ^ m) *ℤ (pos valueUnit *ℤ k))
   last-value m n k =
-      ap (λ z. pos valueUnit *ℤ (k *ℤ z)) (at-powers r D r (D - r) (pos 0) (pos 1) (pos 1) (negsuc 0) (at-s r D) (at-1-s r D h) m m n (omega arith) ∙ ap (λ x. pos ((D - r) ^ n * x)) whole) ∙
+      ap (λ z. pos valueUnit *ℤ (k *ℤ z)) (at-powers r D r (D - r) (pos 0) (pos 1) (pos 1) (negsuc 0) (at-s r D) (at-1-s r D h) m m n (omega arith) ∙
+      ap (λ x. pos ((D - r) ^ n * x)) whole) ∙
       regroup (pos valueUnit) k (pos ((D - r) ^ n)) (pos (r ^ m))
     where
       whole : r ^ m * D ^ (m - m) ≡ r ^ m
@@ -121,7 +130,8 @@ module _ (r D : ℕ) (h : r ≤ D) where
   slope-value m n p q =
       let e : m + n ≡ n + m = omega arith in
       ap (λ z. pos valueUnit *ℤ z) (of-slope _ (at-linear r D (m + n)) m n p q) ∙
-      regroup (pos valueUnit) (at r D (m + n) (lowered s 1-s m n p)) (at r D (m + n) (lowered 1-s s n m (rightWeights q))) (K m n p q *ℤ at r D (m + n) (s ↑ m ⊗ 1-s ↑ n)) ∙
+      regroup (pos valueUnit) (at r D (m + n) (lowered s 1-s m n p)) (at r D (m + n) (lowered 1-s s n m (rightWeights q)))
+      (K m n p q *ℤ at r D (m + n) (s ↑ m ⊗ 1-s ↑ n)) ∙
       ap₂ (λ u v. u +ℤ v)
       (ap₂ (λ u v. u -ℤ v) (lowered-value s 1-s r left-value m n p)
       (ap (λ N. pos valueUnit *ℤ at r D N (lowered 1-s s n m (rightWeights q))) e ∙ lowered-value 1-s s (D - r) right-value n m (rightWeights q)))
@@ -131,9 +141,11 @@ module _ (r D : ℕ) (h : r ≤ D) where
       regroup σ a b c = lets (σ ∷ a ∷ b ∷ c ∷ []) (λ ρ v. simp (v 0, v 1, v 2, v 3, terms, as-minus ρ) (solve ρ _ _ tt))
 
   -- 65,536 × the derivative at r/D, multiplied by D^(m+n+1), for grades 0 to 7
-  pub derivative-value : (m n : ℕ) → m ≤ 7 → n ≤ 7 → (p q : ℕ → ℤ) → pos valueUnit *ℤ at r D (m + n + 1) (derivative (blend m n p q)) ≡ pos D *ℤ unroundedSlope m n r D p q
+  pub derivative-value : (m n : ℕ) → m ≤ 7 → n ≤ 7 → (p q : ℕ → ℤ) →
+      pos valueUnit *ℤ at r D (m + n + 1) (derivative (blend m n p q)) ≡ pos D *ℤ unroundedSlope m n r D p q
   derivative-value m n hm hn p q =
       let e : m + n + 1 ≡ 1 + (m + n) = omega arith in
       ap₂ (λ N a. pos valueUnit *ℤ at r D N a) e (derivative-is m n hm hn p q) ∙
-      ap (λ x. pos valueUnit *ℤ x) (at-raise r D 1 (m + n) (slope m n p q) (omega (arith, length-slope m n p q)) ∙ ap (λ d. pos d *ℤ at r D (m + n) (slope m n p q)) (pow-one D)) ∙
+      ap (λ x. pos valueUnit *ℤ x) (at-raise r D 1 (m + n) (slope m n p q) (omega (arith, length-slope m n p q)) ∙
+      ap (λ d. pos d *ℤ at r D (m + n) (slope m n p q)) (pow-one D)) ∙
       *ℤ-left-comm (pos valueUnit) (pos D) (at r D (m + n) (slope m n p q)) ∙ ap (λ x. pos D *ℤ x) (slope-value m n p q)

@@ -31,7 +31,8 @@ length-⊗ (x ∷ y ∷ a) b g h = omega (arith, length-⊕ (x ⊙ b) (pos 0 ∷
 pub length-↑ : (x y : ℤ) (k : ℕ) → length ((x ∷ y ∷ []) ↑ k) ≡ k + 1
 unfolding _↑_
 length-↑ x y zero = refl
-length-↑ x y (suc k) = let h : length ((x ∷ y ∷ []) ↑ k) ≡ k + 1 = length-↑ x y k in omega (arith, length-⊗ (x ∷ y ∷ []) ((x ∷ y ∷ []) ↑ k) (omega arith) (omega arith))
+length-↑ x y (suc k) =
+    let h : length ((x ∷ y ∷ []) ↑ k) ≡ k + 1 = length-↑ x y k in omega (arith, length-⊗ (x ∷ y ∷ []) ((x ∷ y ∷ []) ↑ k) (omega arith) (omega arith))
 
 pub length-powers : (x y u v : ℤ) (i k : ℕ) → length ((x ∷ y ∷ []) ↑ i ⊗ (u ∷ v ∷ []) ↑ k) ≡ i + k + 1
 length-powers x y u v i k =

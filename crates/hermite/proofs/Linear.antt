@@ -24,7 +24,8 @@ dot-⊕ : (a b : Polynomial) (φ : ℕ → ℤ) → dot (a ⊕ b) φ ≡ dot a �
 unfolding dot _⊕_
 dot-⊕ [] b φ = sym (+ℤ-idl (dot b φ))
 dot-⊕ (x ∷ a) [] φ = sym (+ℤ-idr (dot (x ∷ a) φ))
-dot-⊕ (x ∷ a) (y ∷ b) φ = ap₂ (λ u v. u +ℤ v) (*ℤ-distrib-right x y (φ zero)) (dot-⊕ a b (λ i. φ (suc i))) ∙ +ℤ-interchange (x *ℤ φ zero) (y *ℤ φ zero) (dot a (λ i. φ (suc i))) (dot b (λ i. φ (suc i)))
+dot-⊕ (x ∷ a) (y ∷ b) φ = ap₂ (λ u v. u +ℤ v) (*ℤ-distrib-right x y (φ zero)) (dot-⊕ a b (λ i. φ (suc i))) ∙
+    +ℤ-interchange (x *ℤ φ zero) (y *ℤ φ zero) (dot a (λ i. φ (suc i))) (dot b (λ i. φ (suc i)))
 
 dot-⊙ : (x : ℤ) (a : Polynomial) (φ : ℕ → ℤ) → dot (x ⊙ a) φ ≡ x *ℤ dot a φ
 unfolding dot _⊙_
@@ -114,10 +115,12 @@ module _ (F : Polynomial → ℤ) (linear : Linear F) where
   of-lowered x y zero n w = of-none ∙ sym (*ℤ-zero (w 0)) ∙ ap (λ z. w 0 *ℤ z) (sym of-none)
   of-lowered x y (suc m) n w =
       of-doubleSum x y m n (primed w) ∙ sum-cong m _ _ (λ j h. raised j) ∙
-      sym (sum-first m _ ∙ ap (λ z. z +ℤ sum m (λ j. w (suc j) *ℤ F (loweredBase x y (suc m) n (suc j)))) (ap (λ z. w 0 *ℤ z) of-none ∙ *ℤ-zero (w 0)) ∙ +ℤ-idl _)
+      sym (sum-first m _ ∙ ap (λ z. z +ℤ sum m (λ j. w (suc j) *ℤ F (loweredBase x y (suc m) n (suc j)))) (ap (λ z. w 0 *ℤ z) of-none ∙ *ℤ-zero (w 0)) ∙
+      +ℤ-idl _)
     where
       raised : (j : ℕ) → primed w j *ℤ F (base x y m n j) ≡ w (suc j) *ℤ F (pos (suc j) ⊙ base x y m n j)
-      raised j = rw add-one (*ℤ-assoc (pos (suc j)) (w (suc j)) (F (base x y m n j)) ∙ *ℤ-left-comm (pos (suc j)) (w (suc j)) (F (base x y m n j)) ∙ ap (λ z. w (suc j) *ℤ z) (sym (linear .multiples (pos (suc j)) (base x y m n j))))
+      raised j = rw add-one (*ℤ-assoc (pos (suc j)) (w (suc j)) (F (base x y m n j)) ∙ *ℤ-left-comm (pos (suc j)) (w (suc j)) (F (base x y m n j)) ∙
+          ap (λ z. w (suc j) *ℤ z) (sym (linear .multiples (pos (suc j)) (base x y m n j))))
 
   pub of-slope : (m n : ℕ) (p q : ℕ → ℤ) →
       F (slope m n p q) ≡ F (lowered s 1-s m n p) +ℤ negsuc 0 *ℤ F (lowered 1-s s n m (rightWeights q)) +ℤ K m n p q *ℤ F (s ↑ m ⊗ 1-s ↑ n)
@@ -125,5 +128,6 @@ module _ (F : Polynomial → ℤ) (linear : Linear F) where
   of-slope m n p q =
       linear .sums (lowered s 1-s m n p ⊕ negsuc 0 ⊙ lowered 1-s s n m (rightWeights q)) (K m n p q ⊙ s ↑ m ⊗ 1-s ↑ n) ∙
       ap₂ (λ u v. u +ℤ v)
-      (linear .sums (lowered s 1-s m n p) (negsuc 0 ⊙ lowered 1-s s n m (rightWeights q)) ∙ ap (λ u. F (lowered s 1-s m n p) +ℤ u) (linear .multiples (negsuc 0) (lowered 1-s s n m (rightWeights q))))
+      (linear .sums (lowered s 1-s m n p) (negsuc 0 ⊙ lowered 1-s s n m (rightWeights q)) ∙
+      ap (λ u. F (lowered s 1-s m n p) +ℤ u) (linear .multiples (negsuc 0) (lowered 1-s s n m (rightWeights q))))
       (linear .multiples (K m n p q) (s ↑ m ⊗ 1-s ↑ n))

@@ -20,8 +20,10 @@ use Rattle.hermite.proofs.Length.{length-blend, length-derivative, leng
 
 derivative-linear : (k : ℕ) → Linear (λ a. coefficient (derivative a) k)
 derivative-linear k = record {
-  sums = λ a b. rw (coefficient-derivative (a ⊕ b) k, coefficient-derivative a k, coefficient-derivative b k, coefficient-linear (suc k) .sums a b) (*ℤ-distrib (pos (1 + k)) (coefficient a (suc k)) (coefficient b (suc k)));
-  multiples = λ x a. rw (coefficient-derivative (x ⊙ a) k, coefficient-derivative a k, coefficient-linear (suc k) .multiples x a) (*ℤ-left-comm (pos (1 + k)) x (coefficient a (suc k)));
+  sums = λ a b. rw (coefficient-derivative (a ⊕ b) k, coefficient-derivative a k, coefficient-derivative b k, coefficient-linear (suc k) .sums a b)
+      (*ℤ-distrib (pos (1 + k)) (coefficient a (suc k)) (coefficient b (suc k)));
+  multiples = λ x a. rw (coefficient-derivative (x ⊙ a) k, coefficient-derivative a k, coefficient-linear (suc k) .multiples x a)
+      (*ℤ-left-comm (pos (1 + k)) x (coefficient a (suc k)));
 }
 
 -- the derivative of one double sum, x being 1 or −1: the part of the lower grade, and the part in K
@@ -60,7 +62,8 @@ module _ (m n : ℕ) (hm : m ≤ 7) (hn : n ≤ 7) (p q : ℕ → ℤ) where
       linear : Linear (λ a. coefficient a k)
       linear = coefficient-linear k
 
-      parts : coefficient (slope m n p q) k ≡ sum m (λ j. p j *ℤ lower j) +ℤ negsuc 0 *ℤ sum n (λ j. rightWeights q j *ℤ lower′ j) +ℤ (sumK n m (rightWeights q) -ℤ sumK m n p) *ℤ e
+      parts : coefficient (slope m n p q) k ≡ sum m (λ j. p j *ℤ lower j) +ℤ negsuc 0 *ℤ sum n (λ j. rightWeights q j *ℤ lower′ j) +ℤ
+          (sumK n m (rightWeights q) -ℤ sumK m n p) *ℤ e
       parts =
           of-slope _ linear m n p q ∙
           ap₂ (λ x y. x +ℤ negsuc 0 *ℤ y +ℤ K m n p q *ℤ e) (of-lowered _ linear s 1-s m n p) (of-lowered _ linear 1-s s n m (rightWeights q))

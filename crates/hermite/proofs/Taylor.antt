@@ -35,7 +35,8 @@ module _ (m n : ℕ) (hm : m ≤ 7) (hn : n ≤ 7) (p q : ℕ → ℤ) where
   unfolding taylorLeft one
   taylor-left k h =
       of-blend _ (coefficient-linear k) m n p q ∙
-      ap₂ (λ x y. x +ℤ y) (picks m k (pos 1) p _ h (λ j b. left-base m n hm hn j b .left k h)) (vanishes n (rightWeights q) _ (λ j b. right-base m n hm hn j b .left k h)) ∙
+      ap₂ (λ x y. x +ℤ y) (picks m k (pos 1) p _ h (λ j b. left-base m n hm hn j b .left k h))
+      (vanishes n (rightWeights q) _ (λ j b. right-base m n hm hn j b .left k h)) ∙
       +ℤ-idr (p k *ℤ pos 1) ∙ *ℤ-one (p k)
 
   -- and at the right end q_0 to q_n
@@ -43,5 +44,6 @@ module _ (m n : ℕ) (hm : m ≤ 7) (hn : n ≤ 7) (p q : ℕ → ℤ) where
   unfolding taylorRight rightWeights
   taylor-right k h =
       of-blend _ (dot-linear (λ i. pos (binomial i k))) m n p q ∙
-      ap₂ (λ x y. x +ℤ y) (vanishes m p _ (λ j b. left-base m n hm hn j b .right k h)) (picks n k (sign k) (rightWeights q) _ h (λ j b. right-base m n hm hn j b .right k h)) ∙
+      ap₂ (λ x y. x +ℤ y) (vanishes m p _ (λ j b. left-base m n hm hn j b .right k h))
+      (picks n k (sign k) (rightWeights q) _ h (λ j b. right-base m n hm hn j b .right k h)) ∙
       +ℤ-idl (rightWeights q k *ℤ sign k) ∙ twice-signed k (q k)

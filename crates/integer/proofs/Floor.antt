@@ -30,4 +30,5 @@ pub one-floor : {z : ℤ} {d : ℕ} {q p : ℤ} → Floor z d q → Floor z d p 
 one-floor {d = d} {q = q} {p = p} f g = go q p (sym (f .whole) ∙ g .whole)
   where
     go : (q p : ℤ) → q *ℤ pos d +ℤ pos (f .rest) ≡ p *ℤ pos d +ℤ pos (g .rest) → q ≡ p
-    go q p = rw (as-⊖ q, as-⊖ p) (simp differences (λ e. one-quotient d (up q + dn p) (up p + dn q) (f .rest) (g .rest) (omega (arith, f .small)) (omega (arith, g .small)) (omega arith)))
+    go q p = rw (as-⊖ q, as-⊖ p) (simp differences (λ e. one-quotient d (up q + dn p) (up p + dn q) (f .rest) (g .rest) (omega (arith, f .small))
+        (omega (arith, g .small)) (omega arith)))

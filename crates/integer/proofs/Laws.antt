@@ -1,7 +1,8 @@
 -- The laws of a commutative ring that `lib.IntN` leaves out: the product distributes over the sum and associates.
 use mathlib.Core.Path.{_≡_, sym, _∙_, ap, ap₂}
 use Prim.Native.Nat.{zero, suc}
-use lib.IntN.{ℤ, pos, negsuc, negℤ, one, *ℤ-one, sucℤ, predℤ, _+ℤ_, _-ℤ_, _*ℤ_, +ℤ-assoc, +ℤ-comm, +ℤ-idl, zero-*ℤ, *ℤ-comm, sucℤ-*ℤ, predℤ-*ℤ, negℤ-+ℤ, +ℤ-invr, +ℤ-negℤ-cancel}
+use lib.IntN.{ℤ, pos, negsuc, negℤ, one, *ℤ-one, sucℤ, predℤ, _+ℤ_, _-ℤ_, _*ℤ_, +ℤ-assoc, +ℤ-comm, +ℤ-idl, zero-*ℤ, *ℤ-comm, sucℤ-*ℤ, predℤ-*ℤ, negℤ-+ℤ}
+use lib.IntN.{+ℤ-invr, +ℤ-negℤ-cancel}
 
 -- what holds at 0 and is kept by each step up and down holds everywhere
 steps : (P : ℤ → Type 0) → P (pos zero) → ((m : ℤ) → P m → P (sucℤ m)) → ((m : ℤ) → P m → P (predℤ m)) → (m : ℤ) → P m

@@ -99,7 +99,8 @@ powers-joined : (ρ : ℕ → ℤ) (i : ℕ) (es fs : List ℕ) → powers ρ i 
 unfolding powers
 powers-joined ρ i [] fs = sym (one-*ℤ (powers ρ i fs))
 powers-joined ρ i (e ∷ es) [] = sym (*ℤ-one (powers ρ i (e ∷ es)))
-powers-joined ρ i (e ∷ es) (f ∷ fs) = ap₂ (λ x y. x *ℤ y) (pow-+ (ρ i) e f) (powers-joined ρ (suc i) es fs) ∙ *ℤ-interchange (pow (ρ i) e) (pow (ρ i) f) (powers ρ (suc i) es) (powers ρ (suc i) fs)
+powers-joined ρ i (e ∷ es) (f ∷ fs) = ap₂ (λ x y. x *ℤ y) (pow-+ (ρ i) e f) (powers-joined ρ (suc i) es fs) ∙
+    *ℤ-interchange (pow (ρ i) e) (pow (ρ i) f) (powers ρ (suc i) es) (powers ρ (suc i) fs)
 
 same→eq : (es fs : List ℕ) → T (same es fs) → es ≡ fs
 same→eq [] [] t = refl
@@ -118,7 +119,8 @@ insert-value ρ (c · es) ((d · fs) ∷ ts) = go (same es fs) (same→eq es fs)
   where
     go : (b : Bool) → (T b → es ≡ fs) → total ρ (insert (c · es) ts) ≡ weigh ρ (c · es) +ℤ total ρ ts →
         total ρ (cond b (((c +ℤ d) · es) ∷ ts) ((d · fs) ∷ insert (c · es) ts)) ≡ weigh ρ (c · es) +ℤ (weigh ρ (d · fs) +ℤ total ρ ts)
-    go true h k = rw (← h tt) (ap (λ x. x +ℤ total ρ ts) (*ℤ-distrib-right c d (powers ρ zero es)) ∙ +ℤ-assoc (c *ℤ powers ρ zero es) (d *ℤ powers ρ zero es) (total ρ ts))
+    go true h k = rw (← h tt) (ap (λ x. x +ℤ total ρ ts) (*ℤ-distrib-right c d (powers ρ zero es)) ∙
+        +ℤ-assoc (c *ℤ powers ρ zero es) (d *ℤ powers ρ zero es) (total ρ ts))
     go false h k = ap (λ x. d *ℤ powers ρ zero fs +ℤ x) k ∙ +ℤ-left-comm (d *ℤ powers ρ zero fs) (c *ℤ powers ρ zero es) (total ρ ts)
 
 add-value : (ρ : ℕ → ℤ) (ts us : List Monomial) → total ρ (add ts us) ≡ total ρ ts +ℤ total ρ us
@@ -130,13 +132,15 @@ times-value : (ρ : ℕ → ℤ) (t : Monomial) (ts : List Monomial) → total �
 unfolding total weigh
 times-value ρ (c · es) [] = sym (*ℤ-zero (weigh ρ (c · es)))
 times-value ρ (c · es) ((d · fs) ∷ ts) =
-    ap₂ (λ x y. x +ℤ y) (ap (λ x. (c *ℤ d) *ℤ x) (powers-joined ρ zero es fs) ∙ *ℤ-interchange c d (powers ρ zero es) (powers ρ zero fs)) (times-value ρ (c · es) ts) ∙
+    ap₂ (λ x y. x +ℤ y) (ap (λ x. (c *ℤ d) *ℤ x) (powers-joined ρ zero es fs) ∙ *ℤ-interchange c d (powers ρ zero es) (powers ρ zero fs))
+    (times-value ρ (c · es) ts) ∙
     sym (*ℤ-distrib (weigh ρ (c · es)) (weigh ρ (d · fs)) (total ρ ts))
 
 multiply-value : (ρ : ℕ → ℤ) (ts us : List Monomial) → total ρ (multiply ts us) ≡ total ρ ts *ℤ total ρ us
 unfolding total
 multiply-value ρ [] us = sym (zero-*ℤ (total ρ us))
-multiply-value ρ (t ∷ ts) us = add-value ρ (times t us) (multiply ts us) ∙ ap₂ (λ x y. x +ℤ y) (times-value ρ t us) (multiply-value ρ ts us) ∙ sym (*ℤ-distrib-right (weigh ρ t) (total ρ ts) (total ρ us))
+multiply-value ρ (t ∷ ts) us = add-value ρ (times t us) (multiply ts us) ∙ ap₂ (λ x y. x +ℤ y) (times-value ρ t us) (multiply-value ρ ts us) ∙
+    sym (*ℤ-distrib-right (weigh ρ t) (total ρ ts) (total ρ us))
 
 single-value : (ρ : ℕ → ℤ) (i k : ℕ) → powers ρ k (single i) ≡ ρ (k + i)
 unfolding powers pow

@@ -49,9 +49,12 @@ pub triangle : (m : ℕ) (f : ℕ → ℕ → ℤ) → sum m (λ j. sum (m - j) 
 unfolding sum
 triangle zero f = refl
 triangle (suc m) f =
-    sum m (λ j. sum (suc m - j) (f j)) +ℤ sum (suc m - suc m) (f (suc m)) ≡⟨ ap₂ (λ x y. x +ℤ y) (sum-cong m _ _ (λ j h. longer j h) ∙ sum-+ m (λ j. sum (m - j) (f j)) (λ j. f j (suc m - j))) last ⟩
-    (sum m (λ j. sum (m - j) (f j)) +ℤ sum m (λ j. f j (suc m - j))) +ℤ f (suc m) (suc m - suc m) ≡⟨ +ℤ-assoc (sum m (λ j. sum (m - j) (f j))) (sum m (λ j. f j (suc m - j))) (f (suc m) (suc m - suc m)) ⟩
-    sum m (λ j. sum (m - j) (f j)) +ℤ (sum m (λ j. f j (suc m - j)) +ℤ f (suc m) (suc m - suc m)) ≡⟨ ap (λ x. x +ℤ (sum m (λ j. f j (suc m - j)) +ℤ f (suc m) (suc m - suc m))) (triangle m f) ⟩
+    sum m (λ j. sum (suc m - j) (f j)) +ℤ sum (suc m - suc m) (f (suc m)) ≡⟨ ap₂ (λ x y. x +ℤ y)
+    (sum-cong m _ _ (λ j h. longer j h) ∙ sum-+ m (λ j. sum (m - j) (f j)) (λ j. f j (suc m - j))) last ⟩
+    (sum m (λ j. sum (m - j) (f j)) +ℤ sum m (λ j. f j (suc m - j))) +ℤ f (suc m) (suc m - suc m) ≡⟨ +ℤ-assoc (sum m (λ j. sum (m - j) (f j)))
+    (sum m (λ j. f j (suc m - j))) (f (suc m) (suc m - suc m)) ⟩
+    sum m (λ j. sum (m - j) (f j)) +ℤ (sum m (λ j. f j (suc m - j)) +ℤ f (suc m) (suc m - suc m)) ≡⟨
+    ap (λ x. x +ℤ (sum m (λ j. f j (suc m - j)) +ℤ f (suc m) (suc m - suc m))) (triangle m f) ⟩
     sum m (λ k. sum k (λ j. f j (k - j))) +ℤ (sum m (λ j. f j (suc m - j)) +ℤ f (suc m) (suc m - suc m)) ∎
   where
     longer : (j : ℕ) → j ≤ m → sum (suc m - j) (f j) ≡ sum (m - j) (f j) +ℤ f j (suc m - j)

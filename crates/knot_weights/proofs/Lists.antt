@@ -53,7 +53,8 @@ primed-weights {B} {w} {v} weights lists = record { count = lists .count; small 
   where
     go : (j : ℕ) → Dec (j < 7) → Within (7 * B) (primed (coefficient w) j)
     go j (yes h) = primed-within (coefficient w) j (omega arith) (weights .small (j + 1) (omega arith))
-    go j (no h) = rw (List·getD-eq-default w (pos 0) {n = j + 1} (omega (arith, weights .count)), *ℤ-zero (pos (j + 1))) (within-more (omega arith) (within-natural 0))
+    go j (no h) =
+        rw (List·getD-eq-default w (pos 0) {n = j + 1} (omega (arith, weights .count)), *ℤ-zero (pos (j + 1))) (within-more (omega arith) (within-natural 0))
 
 -- an array that holds numbers of one bound
 pub listed-weights : {B : ℕ} {w : List ℤ} {f : ℕ → ℤ} → Lists w f → ((j : ℕ) → Within B (f j)) → Weights B w

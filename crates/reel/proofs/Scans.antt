@@ -68,7 +68,8 @@ module _ (r : Reel) (held : Held r) where
       let next : suc i < length (scans r) = omega (arith, length-scans) in
       rw (q, back) (rw (at-scans i (omega arith), at-scans (suc i) (omega arith)) at (held .standing .gapAtMost i next))
 
-  pub gap-after : (k i : ℕ) (s : Scan) → i ≡ min (k + 1) (knotsMax - 1) → s .position ≡ knotAt r k .position → ltb (k + 1) (r .count) ≡ true → gap s (knotAt r i .position) ≤ gapMax
+  pub gap-after : (k i : ℕ) (s : Scan) → i ≡ min (k + 1) (knotsMax - 1) → s .position ≡ knotAt r k .position → ltb (k + 1) (r .count) ≡ true →
+      gap s (knotAt r i .position) ≤ gapMax
   gap-after k i s e q there =
       let h : k + 1 < r .count = ltb-true (k + 1) (r .count) there in
       let forth : i ≡ suc k = omega (arith, held .filled .count) in

@@ -28,7 +28,8 @@ opens-over bytes held h =
     record { verdict = sym over; held = held; list = λ quiet. absurd (Option·some-ne-none _ (sym over ∙ quiet)) }
 
 -- within the limit read's causes come first, then 8
-module _ (bytes : List ℕ) (h : length bytes ≤ blockMax) {given r : Reel} {a : Answer} (d : Does (read bytes) given a r []) (v : Verdict) (is : refusal v ≡ refusalIn (replyOf a) (length (scans r))) where
+module _ (bytes : List ℕ) (h : length bytes ≤ blockMax) {given r : Reel} {a : Answer} (d : Does (read bytes) given a r []) (v : Verdict)
+    (is : refusal v ≡ refusalIn (replyOf a) (length (scans r))) where
   by-fault : (o : Option ℕ) → first (blockCauses bytes) ≡ o → Opens (record { reel = r; verdict = v }) bytes
   unfolding reportCauses replyTo standingAfter
   by-fault none e =
@@ -41,7 +42,8 @@ module _ (bytes : List ℕ) (h : length bytes ≤ blockMax) {given r : Reel} {a 
       }
   by-fault (some n) e =
       let reply : replyOf a ≡ refused n = rw e at (d .replies) in
-      let fault : first (reportCauses bytes) ≡ some n = rw (le-ltb blockMax (length bytes) h) (first-found (blockCauses bytes) (tooFew (length (listOf bytes)) ∷ []) e) in
+      let fault : first (reportCauses bytes) ≡ some n =
+      rw (le-ltb blockMax (length bytes) h) (first-found (blockCauses bytes) (tooFew (length (listOf bytes)) ∷ []) e) in
       record { verdict = is ∙ rw reply (sym fault); held = d .held; list = λ quiet. absurd (Option·some-ne-none _ (sym fault ∙ quiet)) }
 
   pub opens-read : Opens (record { reel = r; verdict = v }) bytes

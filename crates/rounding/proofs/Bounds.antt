@@ -4,7 +4,8 @@ use mathlib.Core.Bool.{true}
 use mathlib.Core.Path.{_≡_, refl}
 use mathlib.Core.List.{List}
 use Prim.Native.Nat.{ℕ, zero, suc, _+_, _*_, _-_, _^_, _≤_, _<_}
-use native.Mathlib.Nat.{pow-le-pow-left, pow-le-pow-right, one-le-pow, le-trans, le-mul-of-pos-right, mul-le-mul-left, mul-le-mul-right, div-le-of-le-mul, div-lt-iff-lt-mul}
+use native.Mathlib.Nat.{pow-le-pow-left, pow-le-pow-right, one-le-pow, le-trans, le-mul-of-pos-right, mul-le-mul-left, mul-le-mul-right, div-le-of-le-mul}
+use native.Mathlib.Nat.{div-lt-iff-lt-mul}
 use native.Mathlib.Decide.{decLt}
 use native.Mathlib.Omega.{arith}
 use lib.Dec.{lit<, lit≤}
@@ -74,12 +75,14 @@ right-sized h C j e = within-mul (sign j) (weight h C j) (sign-within j) (sized-
 -- the size rule at a gap of one step or more gives it at one, and so a bound on the coefficients themselves
 pub sized-one : (h : ℕ) (C : List ℤ) → 1 ≤ h → sized h C ≡ true → sized 1 C ≡ true
 unfolding sized
-sized-one h C b e = each-all (length C) (small 1 C) (λ j l. le-leb _ _ (le-trans (mul-le-mul-left (natAbs (getD C j (pos 0))) (pow-le-pow-left b j)) (leb-true _ _ (each-at (length C) (small h C) e j l))))
+sized-one h C b e = each-all (length C) (small 1 C) (λ j l. le-leb _ _
+    (le-trans (mul-le-mul-left (natAbs (getD C j (pos 0))) (pow-le-pow-left b j)) (leb-true _ _ (each-at (length C) (small h C) e j l))))
 
 pub one-within : (C : List ℤ) → sized 1 C ≡ true → (j : ℕ) → j < length C → Within sizeMax (getD C j (pos 0))
 unfolding sized
 one-within C e j l =
-    within-more (le-trans (le-mul-of-pos-right _ (one-le-pow j 1 (omega arith))) (leb-true _ _ (each-at (length C) (small 1 C) e j l))) (within-size (getD C j (pos 0)))
+    within-more (le-trans (le-mul-of-pos-right _ (one-le-pow j 1 (omega arith))) (leb-true _ _ (each-at (length C) (small 1 C) e j l)))
+    (within-size (getD C j (pos 0)))
 
 -- ---- the half-sum
 
@@ -98,13 +101,15 @@ most-6 = sound (upto 7 (λ n. upto 6 (λ i. binomials n i - 3003 ≗ 0))) refl
 sums-within : (B Γ n i : ℕ) (w : ℕ → ℤ) → binomials n i - Γ ≡ 0 → ((j : ℕ) → j ≤ i → Within B (w j)) → Within (Γ * B) (g n w i)
 unfolding binomials g
 sums-within B Γ n i w most small =
-    within-sum B Γ i (λ j. binomial (n + i - j) (i - j)) _ (omega arith) (λ j h. within-mul (pos (binomial (n + i - j) (i - j))) (w j) (within-natural (binomial (n + i - j) (i - j))) (small j h))
+    within-sum B Γ i (λ j. binomial (n + i - j) (i - j)) _ (omega arith)
+    (λ j h. within-mul (pos (binomial (n + i - j) (i - j))) (w j) (within-natural (binomial (n + i - j) (i - j))) (small j h))
 
 pub g-within : (B n i : ℕ) (w : ℕ → ℤ) → n ≤ 7 → i ≤ 7 → ((j : ℕ) → j ≤ i → Within B (w j)) → Within (6435 * B) (g n w i)
 g-within B n i w hn hi = sums-within B 6435 n i w (most-7 n hn i hi)
 
 -- u of step 2, after k rounds of the sums G_i
-descended-within : (Γ : ℕ) (G : ℕ → ℤ) (a d k i : ℕ) → 0 < d → a ≤ d → ((j : ℕ) → j ≤ i + k → Within Γ (G j)) → Within ((k + 1) * (valueUnit * Γ)) (descended G a d k i)
+descended-within : (Γ : ℕ) (G : ℕ → ℤ) (a d k i : ℕ) → 0 < d → a ≤ d → ((j : ℕ) → j ≤ i + k → Within Γ (G j)) →
+    Within ((k + 1) * (valueUnit * Γ)) (descended G a d k i)
 unfolding descended
 descended-within Γ G a d zero i h b small = within-more (omega arith) (within-mul (pos valueUnit) (G i) (within-natural valueUnit) (small i (omega arith)))
 descended-within Γ G a d (suc k) i h b small =
@@ -114,10 +119,12 @@ descended-within Γ G a d (suc k) i h b small =
     (within-mul (pos valueUnit) (G i) (within-natural valueUnit) (small i (omega arith))))
 
 -- on w' of weights that keep the size rule, of order up to 7, it fits at every round
-pub descended-fits : (G : ℕ → ℤ) (a d k i : ℕ) → 0 < d → a ≤ d → i + k ≤ 7 → ((j : ℕ) → j ≤ 7 → Within (6435 * (7 * sizeMax)) (G j)) → Within (2 ^ 63 - 1) (descended G a d k i)
+pub descended-fits : (G : ℕ → ℤ) (a d k i : ℕ) → 0 < d → a ≤ d → i + k ≤ 7 → ((j : ℕ) → j ≤ 7 → Within (6435 * (7 * sizeMax)) (G j)) →
+    Within (2 ^ 63 - 1) (descended G a d k i)
 descended-fits G a d k i h b l small =
     let rounds : k + 1 ≤ 8 = omega arith in
-    within-more (le-trans (mul-le-mul-right (valueUnit * (6435 * (7 * sizeMax))) rounds) (lit≤ tt)) (descended-within (6435 * (7 * sizeMax)) G a d k i h b (λ j e. small j (omega arith)))
+    within-more (le-trans (mul-le-mul-right (valueUnit * (6435 * (7 * sizeMax))) rounds) (lit≤ tt))
+    (descended-within (6435 * (7 * sizeMax)) G a d k i h b (λ j e. small j (omega arith)))
 
 halfSum-within : (Γ m n a d : ℕ) (w : ℕ → ℤ) → 0 < d → a ≤ d → ((i : ℕ) → i ≤ m → Within Γ (g n w i)) → Within ((m + 1) * (valueUnit * Γ)) (halfSum m n a d w)
 unfolding halfSum
@@ -133,7 +140,8 @@ half-within m n a d w hm hn h b small =
 -- ---- the trend
 
 -- Y1 and Y2
-pub lower-within : (m n a d : ℕ) (w : ℕ → ℤ) → m ≤ 7 → n ≤ 7 → 0 < d → a ≤ d → ((j : ℕ) → j ≤ m → Within sizeMax (w j)) → Within (7 * (valueUnit * (3003 * (7 * sizeMax)))) (lowerHalfSum m n a d w)
+pub lower-within : (m n a d : ℕ) (w : ℕ → ℤ) → m ≤ 7 → n ≤ 7 → 0 < d → a ≤ d → ((j : ℕ) → j ≤ m → Within sizeMax (w j)) →
+    Within (7 * (valueUnit * (3003 * (7 * sizeMax)))) (lowerHalfSum m n a d w)
 unfolding lowerHalfSum
 lower-within zero n a d w hm hn h b small = within-more (lit≤ tt) (within-natural 0)
 lower-within (suc m) n a d w hm hn h b small =
@@ -152,11 +160,13 @@ kappas-most = sound (upto 7 (λ m. upto 7 (λ n. shares m (kappa m n) - 91520 �
 pub sumK-within : (m n : ℕ) (w : ℕ → ℤ) → m ≤ 7 → n ≤ 7 → ((j : ℕ) → j ≤ m → Within sizeMax (w j)) → Within (91520 * sizeMax) (sumK m n w)
 unfolding sumK
 sumK-within m n w hm hn small =
-    within-sum sizeMax 91520 m (kappa m n) _ (omega (arith, kappas-most m hm n hn)) (λ j h. within-more (omega arith) (within-mul (w j) (pos (kappa m n j)) (small j h) (within-natural (kappa m n j))))
+    within-sum sizeMax 91520 m (kappa m n) _ (omega (arith, kappas-most m hm n hn))
+    (λ j h. within-more (omega arith) (within-mul (w j) (pos (kappa m n j)) (small j h) (within-natural (kappa m n j))))
 
 pub scaledK-within : {B : ℕ} (m n r d : ℕ) (k : ℤ) → 0 < d → r ≤ d → Within B k → Within (valueUnit * B) (scaledK m n r d k)
 unfolding scaledK
-scaledK-within m n r d k h b w = times-within n _ (d - r) d h (omega arith) (times-within m _ r d h b (within-mul (pos valueUnit) k (within-natural valueUnit) w))
+scaledK-within m n r d k h b w =
+    times-within n _ (d - r) d h (omega arith) (times-within m _ r d h b (within-mul (pos valueUnit) k (within-natural valueUnit) w))
 
 -- ---- the total
 
@@ -170,6 +180,8 @@ entries-most : (m : ℕ) → m ≤ 7 → (n : ℕ) → n ≤ 7 → shares m (c m
 unfolding shares c
 entries-most = sound (upto 7 (λ m. upto 7 (λ n. shares m (c m n) - 2 * waterUnit ≗ 0))) refl
 
-pub side-within : (m n : ℕ) (w : ℕ → ℤ) → m ≤ 7 → n ≤ 7 → ((j : ℕ) → j ≤ m → Within sizeMax (w j)) → Within (2 * waterUnit * sizeMax) (sum m (λ j. w j *ℤ pos (c m n j)))
+pub side-within : (m n : ℕ) (w : ℕ → ℤ) → m ≤ 7 → n ≤ 7 → ((j : ℕ) → j ≤ m → Within sizeMax (w j)) →
+    Within (2 * waterUnit * sizeMax) (sum m (λ j. w j *ℤ pos (c m n j)))
 side-within m n w hm hn small =
-    within-sum sizeMax (2 * waterUnit) m (c m n) _ (omega (arith, entries-most m hm n hn)) (λ j h. within-more (omega arith) (within-mul (w j) (pos (c m n j)) (small j h) (within-natural (c m n j))))
+    within-sum sizeMax (2 * waterUnit) m (c m n) _ (omega (arith, entries-most m hm n hn))
+    (λ j h. within-more (omega arith) (within-mul (w j) (pos (c m n j)) (small j h) (within-natural (c m n j))))

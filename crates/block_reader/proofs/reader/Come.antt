@@ -110,9 +110,11 @@ module _ (ws : List ℕ) (count : ℕ) (knots : List Knot) (last : Neighbour) (k
       knot-passed (neighbour last) (length ws - 1) (count - (k + 1)) ws i passed ∙
       ap₂ (λ y n. to y n (drop (suc i) ws)) (sym x-is) (sym m-is) ∙ ap (λ a. to x m (drop a ws)) (sym (add-one i))
 
-  list-from-word : list ws count ≡ scansIn k knots ++ scanOf x (map payload (take (m + 1) (drop (i + 1) ws))) ∷ knotsFrom (count - (k + 1)) (drop (m + 1) (drop (i + 1) ws))
+  list-from-word : list ws count ≡ scansIn k knots ++ scanOf x (map payload (take (m + 1) (drop (i + 1) ws))) ∷ knotsFrom (count - (k + 1))
+      (drop (m + 1) (drop (i + 1) ws))
   list-from-word =
-      let to : ℕ → ℕ → List ℕ → List Scan = λ y n rest. scansIn k knots ++ scanOf y (map payload (take (n + 1) rest)) ∷ knotsFrom (count - (k + 1)) (drop (n + 1) rest) in
+      let to : ℕ → ℕ → List ℕ → List Scan =
+      λ y n rest. scansIn k knots ++ scanOf y (map payload (take (n + 1) rest)) ∷ knotsFrom (count - (k + 1)) (drop (n + 1) rest) in
       come .scans ∙ ap (λ n. scansIn k knots ++ knotsFrom n (drop i ws)) one-left ∙
       ap (λ l. scansIn k knots ++ l) (knot-listed (neighbour last) (count - (k + 1)) ws i passed) ∙
       ap₂ (λ y n. to y n (drop (suc i) ws)) (sym x-is) (sym m-is) ∙ ap (λ a. to x m (drop a ws)) (sym (add-one i))
@@ -138,16 +140,19 @@ module _ (ws : List ℕ) (count : ℕ) (knots : List Knot) (last : Neighbour) (k
     after-it = let there : i + 1 + (m + 1) ≡ i + (m + 2) = omega arith in drop-drop (m + 1) (i + 1) ws ∙ ap (λ a. drop a ws) there
 
     from-size : fault ws count ≡
-        first (sizeCauses (neighbour last) (scan (next x m c)) ++ knotsCauses (length ws - 1) (count - (k + 1)) (some (scan (next x m c))) (drop (i + (m + 2)) ws))
+        first (sizeCauses (neighbour last) (scan (next x m c)) ++ knotsCauses (length ws - 1) (count - (k + 1)) (some (scan (next x m c)))
+        (drop (i + (m + 2)) ws))
     from-size =
-        from-word ∙ first-later (coefficientCauses (m + 1) (drop (i + 1) ws)) (sizeOn (length ws - 1) (count - (k + 1)) (neighbour last) x m (drop (i + 1) ws)) quiet-words ∙
+        from-word ∙ first-later (coefficientCauses (m + 1) (drop (i + 1) ws))
+        (sizeOn (length ws - 1) (count - (k + 1)) (neighbour last) x m (drop (i + 1) ws)) quiet-words ∙
         ap₂ (λ s l. first (sizeCauses (neighbour last) s ++ knotsCauses (length ws - 1) (count - (k + 1)) (some s) l)) (sym scan-is) after-it
 
     -- the size refuses
     pub from-size-found : {n : ℕ} → first (sizeCauses (neighbour last) (scan (next x m c))) ≡ some n → fault ws count ≡ some n
     from-size-found e =
         from-size ∙
-        first-found (sizeCauses (neighbour last) (scan (next x m c))) (knotsCauses (length ws - 1) (count - (k + 1)) (some (scan (next x m c))) (drop (i + (m + 2)) ws)) e
+        first-found (sizeCauses (neighbour last) (scan (next x m c)))
+        (knotsCauses (length ws - 1) (count - (k + 1)) (some (scan (next x m c))) (drop (i + (m + 2)) ws)) e
 
     -- the list so far, and the new scan
     scans-then : count ≤ knotsMax → list ws count ≡ scansIn (k + 1) (set knots k (next x m c)) ++ knotsFrom (count - (k + 1)) (drop (i + (m + 2)) ws)
@@ -162,15 +167,18 @@ module _ (ws : List ℕ) (count : ℕ) (knots : List Knot) (last : Neighbour) (k
       within = omega arith;
       place = omega (arith, come .place);
       room = length-set knots k _ ∙ come .room;
-      graded = graded-stored knots k (k + 1) (next x m c) (omega (arith, come .room)) (record { room = done .room; grade = g }) (λ j h e. come .graded j (omega arith));
+      graded = graded-stored knots k (k + 1) (next x m c) (omega (arith, come .room)) (record { room = done .room; grade = g })
+          (λ j h e. come .graded j (omega arith));
       lastGraded = λ e. record { room = done .room; grade = g };
-      faults = from-size ∙ first-later (sizeCauses (neighbour last) (scan (next x m c))) (knotsCauses (length ws - 1) (count - (k + 1)) (some (scan (next x m c))) (drop (i + (m + 2)) ws)) sized;
+      faults = from-size ∙ first-later (sizeCauses (neighbour last) (scan (next x m c)))
+          (knotsCauses (length ws - 1) (count - (k + 1)) (some (scan (next x m c))) (drop (i + (m + 2)) ws)) sized;
       scans = scans-then n;
     }
 
 -- ---- all knots are read
 
-pub ended : (ws : List ℕ) (count : ℕ) (knots : List Knot) (last : Neighbour) (k i : ℕ) → Come ws count knots last k i → k ≡ count → scansIn count knots ≡ list ws count
+pub ended : (ws : List ℕ) (count : ℕ) (knots : List Knot) (last : Neighbour) (k i : ℕ) → Come ws count knots last k i → k ≡ count →
+    scansIn count knots ≡ list ws count
 ended ws count knots last k i come e =
     let rest : count - k ≡ 0 = omega arith in
     sym

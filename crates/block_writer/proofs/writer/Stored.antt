@@ -71,7 +71,8 @@ pub record Left (before : List ℕ) (a : ℕ) (ws out : List ℕ) (b : ℕ) (res
 all-left : (before : List ℕ) (a : ℕ) (ws : List ℕ) → Left before a ws before a ws
 all-left before a ws = record { same = refl; whole = refl }
 
-fewer-left : {before ws out out′ : List ℕ} {a b b′ : ℕ} (us rest : List ℕ) → Left before a ws out b (us ++ rest) → out′ ≡ sets out (4 * b) (bytes us) → b′ ≡ b + length us → Left before a ws out′ b′ rest
+fewer-left : {before ws out out′ : List ℕ} {a b b′ : ℕ} (us rest : List ℕ) → Left before a ws out b (us ++ rest) → out′ ≡ sets out (4 * b) (bytes us) →
+    b′ ≡ b + length us → Left before a ws out′ b′ rest
 fewer-left {out = out} {b = b} us rest left stored next = record {
   same = ap length stored ∙ length-sets out (4 * b) (bytes us) ∙ left .same;
   whole = rw (stored, next) (sym (words-stored out b us rest) ∙ left .whole);
@@ -90,9 +91,11 @@ module _ (before : List ℕ) (i : ℕ) (k : Knot) where
   module _ (g : Graded k) (out : List ℕ) (j : ℕ) (come : Coefficients before i (k .grade) (k .coefficients) out j) where
     coefficients-next : j ≤ k .grade → drop j (scan k .coefficients) ≡ getD (k .coefficients) j (pos 0) ∷ drop (j + 1) (scan k .coefficients)
     coefficients-next h =
-        rw (add-one j, ← getD-take (k .grade + 1) (k .coefficients) j (pos 0) (omega arith)) (drop-cons (scan k .coefficients) j (pos 0) (omega (arith, list-length k g)))
+        rw (add-one j, ← getD-take (k .grade + 1) (k .coefficients) j (pos 0) (omega arith))
+        (drop-cons (scan k .coefficients) j (pos 0) (omega (arith, list-length k g)))
 
-    pub one-stored : j ≤ k .grade → (out′ : List ℕ) (w : ℕ) → w ≡ coefficientWord (getD (k .coefficients) j (pos 0)) → out′ ≡ sets out (4 * (i + 1 + j)) (bytesOf w) →
+    pub one-stored : j ≤ k .grade → (out′ : List ℕ) (w : ℕ) → w ≡ coefficientWord (getD (k .coefficients) j (pos 0)) →
+        out′ ≡ sets out (4 * (i + 1 + j)) (bytesOf w) →
         Coefficients before i (k .grade) (k .coefficients) out′ (j + 1)
     one-stored h out′ w e stored = record {
       within = omega arith;
@@ -105,12 +108,14 @@ module _ (before : List ℕ) (i : ℕ) (k : Knot) where
     all-stored h = rw (drop-of-length-le (scan k .coefficients) {i = j} (omega (arith, list-length k g))) at (come .left .whole)
 
     -- with the knot word before them
-    pub knot-stored : k .grade < j → (l : List ℕ) (w : ℕ) → w ≡ knotWord (k .position) (k .grade) → before ≡ sets l (4 * i) (bytesOf w) → out ≡ sets l (4 * i) (bytes (scanWords (scan k)))
+    pub knot-stored : k .grade < j → (l : List ℕ) (w : ℕ) → w ≡ knotWord (k .position) (k .grade) → before ≡ sets l (4 * i) (bytesOf w) →
+        out ≡ sets l (4 * i) (bytes (scanWords (scan k)))
     knot-stored h l w e first =
         let m : k .grade ≡ grade (scan k) = omega (arith, list-length k g) in
         let word : w ≡ knotWord (k .position) (grade (scan k)) = e ∙ ap (knotWord (k .position)) m in
         let coefficients = map coefficientWord (scan k .coefficients) in
-        all-stored h ∙ ap (λ s. sets s (4 * (i + 1)) (bytes coefficients)) (rw word at first) ∙ sym (words-stored l i (knotWord (k .position) (grade (scan k)) ∷ []) coefficients)
+        all-stored h ∙ ap (λ s. sets s (4 * (i + 1)) (bytes coefficients)) (rw word at first) ∙
+        sym (words-stored l i (knotWord (k .position) (grade (scan k)) ∷ []) coefficients)
 
 -- ---- a block: k of its knots are stored behind its header, and word i is the next
 
@@ -123,20 +128,23 @@ module _ (before : List ℕ) (knots : List Knot) (n : ℕ) where
   no-knot = record { counted = none-counted knots n 1; left = all-left before 1 (knotsWords (scansIn n knots)) }
 
   module _ (can : Filled knots n) (out : List ℕ) (i k : ℕ) (come : Knots before knots n out i k) where
-    pub one-knot : k < n → (out′ : List ℕ) (i′ : ℕ) → i′ ≡ i + (knotIn knots k .grade + 2) → out′ ≡ sets out (4 * i) (bytes (scanWords (scan (knotIn knots k)))) → Knots before knots n out′ i′ (k + 1)
+    pub one-knot : k < n → (out′ : List ℕ) (i′ : ℕ) → i′ ≡ i + (knotIn knots k .grade + 2) →
+        out′ ≡ sets out (4 * i) (bytes (scanWords (scan (knotIn knots k)))) → Knots before knots n out′ i′ (k + 1)
     one-knot h out′ i′ next stored =
         let words = scanWords (scan (knotIn knots k)) in
         let rest = knotsWords (drop (k + 1) (scansIn n knots)) in
         record {
           counted = rw next (one-counted knots n can 1 k i (come .counted) h);
-          left = fewer-left words rest (rw (words-next knots n can k h) at (come .left)) stored (omega (arith, next, scan-words (knotIn knots k) (can .graded k h)));
+          left = fewer-left words rest (rw (words-next knots n can k h) at (come .left)) stored
+              (omega (arith, next, scan-words (knotIn knots k) (can .graded k h)));
         }
 
     all-knots : n ≤ k → out ≡ sets before 4 (bytes (knotsWords (scansIn n knots)))
     all-knots h = rw (none-next knots n can k h) at (come .left .whole)
 
     -- with the header before them, and the end word after them
-    pub block-stored : n ≤ k → (l out′ : List ℕ) (v w : ℕ) → v ≡ headerWord n editionNow → before ≡ sets l 0 (bytesOf v) → w ≡ endWord i → out′ ≡ sets out (4 * i) (bytesOf w) →
+    pub block-stored : n ≤ k → (l out′ : List ℕ) (v w : ℕ) → v ≡ headerWord n editionNow → before ≡ sets l 0 (bytesOf v) → w ≡ endWord i →
+        out′ ≡ sets out (4 * i) (bytesOf w) →
         length (block (scansIn n knots)) ≤ length l → out′ ≡ written (scansIn n knots) l
     unfolding block
     block-stored h l out′ v w head first end last fits =

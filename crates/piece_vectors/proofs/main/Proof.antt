@@ -38,7 +38,8 @@ loop-less : tie.Need-loop-less Inv-loop μ-loop
 loop-less c = omega arith
 
 loop-again : tie.Need-loop-again Inv-loop μ-loop
-loop-again c = (omega arith, c .before .before .before .before .before .before .before .loop .inv .1 ∙ sym (c .before .before .before .before .read-full .kept .1 .0))
+loop-again c =
+    (omega arith, c .before .before .before .before .before .before .before .loop .inv .1 ∙ sym (c .before .before .before .before .read-full .kept .1 .0))
 
 returns-2 : tie.Need-returns-2 Inv-loop μ-loop
 returns-2 c = search needs

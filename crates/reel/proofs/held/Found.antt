@@ -28,10 +28,12 @@ module _ (r : Reel) (held : Held r) where
   pub append-room : (x : ℕ) (C : List ℤ) → first (causes (append x C) (scans r)) ≡ none → r .count < knotsMax
   append-room x C e = omega (arith, ltb-false knotsMax (length (scans r) + 1) (quiet (causes (append x C) (scans r)) e .0), length-scans r held)
 
-  append-causes : (i x : ℕ) (C : List ℤ) → i ≡ r .count - 1 → appendCauses (r .count) (beside (ltb 0 (r .count)) (knotAt r i)) x C ≡ causes (append x C) (scans r)
+  append-causes : (i x : ℕ) (C : List ℤ) → i ≡ r .count - 1 →
+      appendCauses (r .count) (beside (ltb 0 (r .count)) (knotAt r i)) x C ≡ causes (append x C) (scans r)
   append-causes i x C e = rw (length-scans r held, before-is r held (r .count) i e (omega arith)) refl
 
-  pub append-finds : (i x : ℕ) (C : List ℤ) (t : Found) → i ≡ r .count - 1 → Finds t (appendCauses (r .count) (beside (ltb 0 (r .count)) (knotAt r i)) x C) (scanOf x C) → Finds t (causes (append x C) (scans r)) (scanOf x C)
+  pub append-finds : (i x : ℕ) (C : List ℤ) (t : Found) → i ≡ r .count - 1 →
+      Finds t (appendCauses (r .count) (beside (ltb 0 (r .count)) (knotAt r i)) x C) (scanOf x C) → Finds t (causes (append x C) (scans r)) (scanOf x C)
   append-finds i x C t e f = rw (sym (append-causes i x C e)) f
 
   pub correct-there : (k : ℕ) (C : List ℤ) → first (causes (correct k C) (scans r)) ≡ none → k < r .count
@@ -52,7 +54,8 @@ module _ (r : Reel) (held : Held r) where
 
   -- where no cause holds there is a knot k, and the new one lies where it lies
   pub correct-finds : (k n i j : ℕ) (C : List ℤ) (t : Found) → n ≡ min k (knotsMax - 1) → i ≡ n - 1 → j ≡ min (n + 1) (knotsMax - 1) →
-      Finds t (correctCauses k (r .count) (beside (ltb 0 k) (knotAt r i)) (knotAt r n .position) (beside (ltb (k + 1) (r .count)) (knotAt r j)) C) (scanOf (knotAt r n .position) C) →
+      Finds t (correctCauses k (r .count) (beside (ltb 0 k) (knotAt r i)) (knotAt r n .position) (beside (ltb (k + 1) (r .count)) (knotAt r j)) C)
+      (scanOf (knotAt r n .position) C) →
       Finds t (causes (correct k C) (scans r)) (corrected (scans r) k C)
   correct-finds k n i j C t e p q f =
       let same = correct-causes k n i j C e p q in
@@ -62,7 +65,8 @@ module _ (r : Reel) (held : Held r) where
       moved h holds = let here : n ≡ k = omega (arith, held .filled .count) in rw (at-scans r held k h, ← here) holds
 
   -- a query looks at the first and the last knot
-  pub query-causes : (i x : ℕ) → i ≡ r .count - 1 → first (queryCauses (r .count) (256 * knotAt r 0 .position) (256 * knotAt r i .position) x) ≡ first (causes (value x) (scans r))
+  pub query-causes : (i x : ℕ) → i ≡ r .count - 1 →
+      first (queryCauses (r .count) (256 * knotAt r 0 .position) (256 * knotAt r i .position) x) ≡ first (causes (value x) (scans r))
   query-causes i x e = go (decLt (r .count) 2)
     where
       go : Dec (r .count < 2) → first (queryCauses (r .count) (256 * knotAt r 0 .position) (256 * knotAt r i .position) x) ≡ first (causes (value x) (scans r))

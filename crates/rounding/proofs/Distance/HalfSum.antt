@@ -22,22 +22,26 @@ descent-last : (G : ℕ → ℤ) (a D i : ℕ) → unroundedDescent (from G i) a
 unfolding from unroundedDescent sum one
 descent-last G a D i = rw (add-zero, pow-zero a, pow-zero D) (*ℤ-one (pos valueUnit *ℤ G i))
 
-descent-next : (G : ℕ → ℤ) (a D k i : ℕ) → unroundedDescent (from G i) a D (suc k) ≡ pos a *ℤ unroundedDescent (from G (suc i)) a D k +ℤ pos (D ^ suc k) *ℤ (pos valueUnit *ℤ G i)
+descent-next : (G : ℕ → ℤ) (a D k i : ℕ) → unroundedDescent (from G i) a D (suc k) ≡ pos a *ℤ unroundedDescent (from G (suc i)) a D k +ℤ pos
+    (D ^ suc k) *ℤ (pos valueUnit *ℤ G i)
 unfolding from unroundedDescent
 descent-next G a D k i =
-    sum-first k _ ∙ ap₂ (λ x y. x +ℤ y) first (sum-cong k _ _ (λ l h. later l) ∙ sum-* k (pos a) (λ l. pos valueUnit *ℤ G (suc i + l) *ℤ pos (a ^ l * D ^ (k - l)))) ∙
+    sum-first k _ ∙ ap₂ (λ x y. x +ℤ y) first (sum-cong k _ _ (λ l h. later l) ∙
+    sum-* k (pos a) (λ l. pos valueUnit *ℤ G (suc i + l) *ℤ pos (a ^ l * D ^ (k - l)))) ∙
     +ℤ-comm (pos (D ^ suc k) *ℤ (pos valueUnit *ℤ G i)) (pos a *ℤ unroundedDescent (from G (suc i)) a D k)
   where
     first : pos valueUnit *ℤ G (i + 0) *ℤ pos (a ^ 0 * D ^ (suc k - 0)) ≡ pos (D ^ suc k) *ℤ (pos valueUnit *ℤ G i)
     first = rw (add-zero, power-first a D k) (*ℤ-comm (pos valueUnit *ℤ G i) (pos (D ^ suc k)))
 
-    later : (l : ℕ) → pos valueUnit *ℤ G (i + suc l) *ℤ pos (a ^ suc l * D ^ (suc k - suc l)) ≡ pos a *ℤ (pos valueUnit *ℤ G (suc i + l) *ℤ pos (a ^ l * D ^ (k - l)))
+    later : (l : ℕ) → pos valueUnit *ℤ G (i + suc l) *ℤ pos (a ^ suc l * D ^ (suc k - suc l)) ≡ pos a *ℤ
+        (pos valueUnit *ℤ G (suc i + l) *ℤ pos (a ^ l * D ^ (k - l)))
     later l =
         let e : i + suc l ≡ suc i + l = omega arith in
         rw (e, power-next a D k l) (*ℤ-left-comm (pos valueUnit *ℤ G (suc i + l)) (pos a) (pos (a ^ l * D ^ (k - l))))
 
 module _ (D e₁ e₂ : ℕ) (once : (z : ℤ) → Rounding D e₁ e₂ z (rounded z D)) where
-  pub near-times : {N c₁ c₂ : ℕ} {Z u : ℤ} (k a : ℕ) → a ≤ D → Near D N c₁ c₂ Z u → Near D (N + k) (c₁ + k * e₁) (c₂ + k * e₂) (pos (a ^ k) *ℤ Z) (scaledTimes k u a D)
+  pub near-times : {N c₁ c₂ : ℕ} {Z u : ℤ} (k a : ℕ) → a ≤ D → Near D N c₁ c₂ Z u →
+      Near D (N + k) (c₁ + k * e₁) (c₂ + k * e₂) (pos (a ^ k) *ℤ Z) (scaledTimes k u a D)
   unfolding scaledTimes scaled one
   near-times {Z = Z} zero a h near = near-as (omega arith) (omega arith) (omega arith) (rw pow-zero (sym (one-*ℤ Z))) near
   near-times {Z = Z} {u = u} (suc k) a h near =

@@ -3,7 +3,8 @@
 use mathlib.Core.Path.{_≡_, refl, sym, _∙_, ap, ap₂}
 use mathlib.Core.List.{[], _∷_}
 use Prim.Native.Nat.{ℕ, suc, _+_, _*_, _^_, _≤_, _<_}
-use native.Mathlib.Nat.{pow-zero, pow-suc, one-le-pow, le-refl, le-trans, mul-le-mul-left, mul-le-mul-right, le-of-mul-le-mul-left, lt-of-mul-lt-mul-left, mul-lt-mul-of-pos-right}
+use native.Mathlib.Nat.{pow-zero, pow-suc, one-le-pow, le-refl, le-trans, mul-le-mul-left, mul-le-mul-right, le-of-mul-le-mul-left, lt-of-mul-lt-mul-left}
+use native.Mathlib.Nat.{mul-lt-mul-of-pos-right}
 use native.Mathlib.Omega.{arith}
 use lib.IntN.{ℤ, pos, negℤ, one, _+ℤ_, _-ℤ_, _*ℤ_, +ℤ-comm}
 use lib.Signed.{_≤ℤ_, _<ℤ_}
@@ -47,11 +48,13 @@ unfolding one
 near-start D u = near-as refl (le-refl 0) (le-refl 0) (rw pow-zero (one-*ℤ u)) (near-exact D 0 u)
 
 -- one more scaling
-pub near-scaled : {D N c₁ c₂ e₁ e₂ : ℕ} (a : ℕ) {Z u v : ℤ} → a ≤ D → Near D N c₁ c₂ Z u → Rounding D e₁ e₂ (u *ℤ pos a) v → Near D (suc N) (c₁ + e₁) (c₂ + e₂) (pos a *ℤ Z) v
+pub near-scaled : {D N c₁ c₂ e₁ e₂ : ℕ} (a : ℕ) {Z u v : ℤ} → a ≤ D → Near D N c₁ c₂ Z u → Rounding D e₁ e₂ (u *ℤ pos a) v →
+    Near D (suc N) (c₁ + e₁) (c₂ + e₂) (pos a *ℤ Z) v
 near-scaled {D} {N} {c₁} {c₂} {e₁} {e₂} a {Z} {u} {v} h near once = record {
   under = a * near .under + D ^ N * once .under;
   over = a * near .over + D ^ N * once .over;
-  equation = rw pow-suc (both (pos a) Z (pos (near .under)) (pos (D ^ N)) u (pos (near .over)) (pos D) v (pos (once .over)) (pos (once .under)) (near .equation) (once .equation));
+  equation = rw pow-suc (both (pos a) Z (pos (near .under)) (pos (D ^ N)) u (pos (near .over)) (pos D) v (pos (once .over)) (pos (once .under))
+      (near .equation) (once .equation));
   under-small = rw pow-suc (bound (D ^ N) c₁ e₁ (near .under) (once .under) (near .under-small) (once .under-small));
   over-small = rw pow-suc (bound (D ^ N) c₂ e₂ (near .over) (once .over) (near .over-small) (once .over-small));
 }
@@ -61,7 +64,8 @@ near-scaled {D} {N} {c₁} {c₂} {e₁} {e₂} a {Z} {u} {v} h near once = reco
 
     both : (a z i d u o D v p k : ℤ) → z +ℤ i ≡ d *ℤ u +ℤ o → u *ℤ a +ℤ k ≡ D *ℤ v +ℤ p → a *ℤ z +ℤ (a *ℤ i +ℤ d *ℤ k) ≡ (d *ℤ D) *ℤ v +ℤ (a *ℤ o +ℤ d *ℤ p)
     both a z i d u o D v p k e f =
-        ap₂ (λ s t. a *ℤ s +ℤ (a *ℤ i +ℤ d *ℤ t)) (moved z i (d *ℤ u +ℤ o) e) (moved k (u *ℤ a) (D *ℤ v +ℤ p) (+ℤ-comm k (u *ℤ a) ∙ f)) ∙ regroup a d u o i D v p
+        ap₂ (λ s t. a *ℤ s +ℤ (a *ℤ i +ℤ d *ℤ t)) (moved z i (d *ℤ u +ℤ o) e) (moved k (u *ℤ a) (D *ℤ v +ℤ p) (+ℤ-comm k (u *ℤ a) ∙ f)) ∙
+        regroup a d u o i D v p
 
     bound : (d c e x y : ℕ) → D * x ≤ c * d → y ≤ e → D * (a * x + d * y) ≤ (c + e) * (d * D)
     bound d c e x y f g = omega (arith, mul-le-mul-left a f, mul-le-mul-right (c * d) h, mul-le-mul-left (D * d) g)
@@ -112,7 +116,8 @@ times {h} D {y} {z} once = record {
     multiplied y i x o D e = apart y i D ∙ ap (λ t. D *ℤ t) e ∙ *ℤ-distrib D x o
 
 -- y divided by h, where h × z is compared: both sides are multiplied by one more D
-pub near-divided : {D N c₁ c₂ h e₁ e₂ : ℕ} {Z y z : ℤ} → Near D N c₁ c₂ Z y → Rounding h e₁ e₂ y z → Near D (suc N) (c₁ + D * e₁) (c₂ + D * e₂) (pos D *ℤ Z) (pos h *ℤ z)
+pub near-divided : {D N c₁ c₂ h e₁ e₂ : ℕ} {Z y z : ℤ} → Near D N c₁ c₂ Z y → Rounding h e₁ e₂ y z →
+    Near D (suc N) (c₁ + D * e₁) (c₂ + D * e₂) (pos D *ℤ Z) (pos h *ℤ z)
 near-divided {D} near once = near-scaled D (le-refl D) near (times D once)
 
 -- ---- what the error is, as an order: bounds in parts of D × D^N come to bounds in parts of D^N

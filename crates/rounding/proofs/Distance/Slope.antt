@@ -19,14 +19,17 @@ module _ (D e₁ e₂ : ℕ) (once : (z : ℤ) → Rounding D e₁ e₂ z (round
   near-lower (suc m) n a w h = near-as (omega arith) (omega arith) (omega arith) refl (near-halfSum D e₁ e₂ once m n a (primed w) h)
 
   -- Y3: m and then n scalings
-  near-last : (m n r : ℕ) (k : ℤ) → r ≤ D → Near D (m + n) ((m + n) * e₁) ((m + n) * e₂) (pos ((D - r) ^ n) *ℤ (pos (r ^ m) *ℤ k)) (scaledTimes n (scaledTimes m k r D) (D - r) D)
-  near-last m n r k h = near-as (omega arith) (omega arith) (omega arith) refl (near-times D e₁ e₂ once n (D - r) (omega arith) (near-times D e₁ e₂ once m r h (near-start D k)))
+  near-last : (m n r : ℕ) (k : ℤ) → r ≤ D → Near D (m + n) ((m + n) * e₁) ((m + n) * e₂) (pos ((D - r) ^ n) *ℤ (pos (r ^ m) *ℤ k))
+      (scaledTimes n (scaledTimes m k r D) (D - r) D)
+  near-last m n r k h =
+      near-as (omega arith) (omega arith) (omega arith) refl (near-times D e₁ e₂ once n (D - r) (omega arith) (near-times D e₁ e₂ once m r h (near-start D k)))
 
   pub near-slope : (m n r : ℕ) (p q : ℕ → ℤ) → r ≤ D →
       Near D (m + n) ((m + n) * (2 * e₁ + e₂)) ((m + n) * (e₁ + 2 * e₂)) (unroundedSlope m n r D p q)
       (lowerHalfSum m n r D p -ℤ lowerHalfSum n m (D - r) D (rightWeights q) +ℤ scaledTimes n (scaledTimes m (pos valueUnit *ℤ K m n p q) r D) (D - r) D)
   unfolding unroundedSlope
-  near-slope m n r p q h = near-as refl (omega arith) (omega arith) refl (near-sum (near-sum (near-lower m n r p h) (near-neg right)) (near-last m n r (pos valueUnit *ℤ K m n p q) h))
+  near-slope m n r p q h = near-as refl (omega arith) (omega arith) refl
+      (near-sum (near-sum (near-lower m n r p h) (near-neg right)) (near-last m n r (pos valueUnit *ℤ K m n p q) h))
     where
       right : Near D (m + n) ((m + n) * e₁) ((m + n) * e₂) (lowerUnrounded n m (D - r) D (rightWeights q)) (lowerHalfSum n m (D - r) D (rightWeights q))
       right = near-as (omega arith) (omega arith) (omega arith) refl (near-lower n m (D - r) (rightWeights q) (omega arith))

@@ -16,8 +16,10 @@ use Rattle.rounding.proofs.Distance.Scaling.{rounded-down}
 use Rattle.rounding.proofs.Distance.Slope.{near-slope}
 
 -- for any error of one scaling and of the division by h: Y1, Y2 and Y3 make m+n scalings each
-near-trend : (P : Piece) (r e₁ e₂ f₁ f₂ : ℕ) → m P ≤ 7 → n P ≤ 7 → ((z : ℤ) → Rounding (D P) e₁ e₂ z (rounded z (D P))) → ((z : ℤ) → Rounding (P .h) f₁ f₂ z (rounded z (P .h))) → r ≤ D P →
-    Near (D P) (N P) ((m P + n P) * (2 * e₁ + e₂) + D P * f₁) ((m P + n P) * (e₁ + 2 * e₂) + D P * f₂) (pos valueUnit *ℤ at r (D P) (N P) (exactDerivative P)) (pos (P .h) *ℤ trend P r)
+near-trend : (P : Piece) (r e₁ e₂ f₁ f₂ : ℕ) → m P ≤ 7 → n P ≤ 7 → ((z : ℤ) → Rounding (D P) e₁ e₂ z (rounded z (D P))) →
+    ((z : ℤ) → Rounding (P .h) f₁ f₂ z (rounded z (P .h))) → r ≤ D P →
+    Near (D P) (N P) ((m P + n P) * (2 * e₁ + e₂) + D P * f₁) ((m P + n P) * (e₁ + 2 * e₂) + D P * f₂)
+    (pos valueUnit *ℤ at r (D P) (N P) (exactDerivative P)) (pos (P .h) *ℤ trend P r)
 unfolding trend Y1 Y2 Y3 scaledK exactBlend exactDerivative
 near-trend P r e₁ e₂ f₁ f₂ hm hn once divided b =
     near-as (omega arith) (omega arith) (omega arith) (sym (derivative-value r (D P) b (m P) (n P) hm hn (p P) (q P)))
@@ -41,5 +43,6 @@ trend-distance P r h hm hn b = record {
   atMost = error-at-most _ (omega arith) near (upper-end (m P + n P) (D P) (P .h) _ (omega arith));
 }
   where
-    near : Near (D P) (N P) ((m P + n P) * (2 * 0 + (D P - 1)) + D P * 0) ((m P + n P) * (0 + 2 * (D P - 1)) + D P * (P .h - 1)) (pos valueUnit *ℤ at r (D P) (N P) (exactDerivative P)) (pos (P .h) *ℤ trend P r)
+    near : Near (D P) (N P) ((m P + n P) * (2 * 0 + (D P - 1)) + D P * 0) ((m P + n P) * (0 + 2 * (D P - 1)) + D P * (P .h - 1))
+        (pos valueUnit *ℤ at r (D P) (N P) (exactDerivative P)) (pos (P .h) *ℤ trend P r)
     near = near-trend P r 0 (D P - 1) 0 (P .h - 1) hm hn (rounded-down (D P) (omega arith)) (rounded-down (P .h) h) b

@@ -26,7 +26,8 @@ near-value P r e₁ e₂ once b = near-as refl (omega arith) (omega arith) (sym 
     left : Near (D P) (N P) (N P * e₁) (N P * e₂) (unrounded (m P) (n P) r (D P) (p P)) (halfSum (m P) (n P) r (D P) (p P))
     left = near-as (omega arith) (omega arith) (omega arith) refl (near-halfSum (D P) e₁ e₂ once (m P) (n P) r (p P) b)
 
-    right : Near (D P) (N P) (N P * e₁) (N P * e₂) (unrounded (n P) (m P) (D P - r) (D P) (rightWeights (q P))) (halfSum (n P) (m P) (D P - r) (D P) (rightWeights (q P)))
+    right : Near (D P) (N P) (N P * e₁) (N P * e₂) (unrounded (n P) (m P) (D P - r) (D P) (rightWeights (q P)))
+        (halfSum (n P) (m P) (D P - r) (D P) (rightWeights (q P)))
     right = near-as (omega arith) (omega arith) (omega arith) refl (near-halfSum (D P) e₁ e₂ once (n P) (m P) (D P - r) (rightWeights (q P)) (omega arith))
 
 -- ---- rounding down, each error is at least 0 and below 1

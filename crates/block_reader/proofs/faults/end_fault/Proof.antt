@@ -76,7 +76,11 @@ returns-3 c =
     let l = k .before .before in
     let w = l .load .result in
     let n = l .before .before .before .before .args .k in
-    rw (ends l, eq-eqb (kind w) 3 (sym (k .before .kind .ensures) ∙ k .match .keys1), ne-eqb (wordsBefore w) n (λ e. c .if3 .taken (c .before .words-before .ensures ∙ e))) refl
+    rw (
+      ends l,
+      eq-eqb (kind w) 3 (sym (k .before .kind .ensures) ∙ k .match .keys1),
+      ne-eqb (wordsBefore w) n (λ e. c .if3 .taken (c .before .words-before .ensures ∙ e)),
+    ) refl
 
 returns-4 : tie.Need-returns-4
 returns-4 c =
@@ -84,7 +88,11 @@ returns-4 c =
     let l = k .before .before in
     let w = l .load .result in
     let n = l .before .before .before .before .args .k in
-    rw (ends l, eq-eqb (kind w) 3 (sym (k .before .kind .ensures) ∙ k .match .keys1), eq-eqb (wordsBefore w) n (sym (c .before .words-before .ensures) ∙ c .if3 .left)) refl
+    rw (
+      ends l,
+      eq-eqb (kind w) 3 (sym (k .before .kind .ensures) ∙ k .match .keys1),
+      eq-eqb (wordsBefore w) n (sym (c .before .words-before .ensures) ∙ c .if3 .left),
+    ) refl
 
 returns-5 : tie.Need-returns-5
 returns-5 c =

@@ -47,7 +47,11 @@ returns-2 c =
     let k = e .before .before in
     let w = k .before .before .args .word in
     sym (header-form w
-    (rw (eq-eqb (kind w) 0 (is-kind k), eq-eqb (edition w) 1 (is-edition e), ne-eqb (headerSpare w) 0 (λ z. c .if2 .taken (c .before .header-spare .ensures ∙ z))) refl))
+    (rw (
+      eq-eqb (kind w) 0 (is-kind k),
+      eq-eqb (edition w) 1 (is-edition e),
+      ne-eqb (headerSpare w) 0 (λ z. c .if2 .taken (c .before .header-spare .ensures ∙ z)),
+    ) refl))
 
 knot-count-requires : tie.Need-knot-count-requires
 knot-count-requires c κs = search needs
@@ -56,7 +60,8 @@ cast-if3 : tie.Need-cast-if3
 cast-if3 c = search needs
 
 -- a header: what is left is 2
-counted : (c : tie.After-knot-count) → let w = c .before .before .before .before .before .before .before .args .word in first (headerCauses w) ≡ first (tooMany (knotCount w) ∷ [])
+counted : (c : tie.After-knot-count) → let w = c .before .before .before .before .before .before .before .args .word in
+    first (headerCauses w) ≡ first (tooMany (knotCount w) ∷ [])
 counted c =
     let e = c .before .before .before in
     let k = e .before .before in

@@ -34,7 +34,8 @@ position-cause-requires : tie.Need-position-cause-requires
 position-cause-requires c κs = search needs
 
 -- a knot word: what is left are 4 and 5
-placed : (c : tie.Else1) → let a = c .before .before .before .before .args in first (knotCauses (neighbour (a .last)) (a .word)) ≡ first (positionCauses (neighbour (a .last)) (position (a .word)))
+placed : (c : tie.Else1) → let a = c .before .before .before .before .args in
+    first (knotCauses (neighbour (a .last)) (a .word)) ≡ first (positionCauses (neighbour (a .last)) (position (a .word)))
 placed c =
     let k = c .before .before in
     let w = k .before .before .args .word in

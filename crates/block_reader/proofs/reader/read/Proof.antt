@@ -106,14 +106,17 @@ returns-2 c =
     stops bs (refusal (h .header-fault .result)) (n .number2 .ensures) (c .before .if2 .taken)
     (λ k q. length-passed e ∙ header-found (words bs) (header-is h ∙ q)) (c .stopped2 .ensures)
 
-header-quiet : (c : tie.Else2) → let bs = c .before .before .before .before .before .before .before .before .args .block .now in first (headerCauses (getD (words bs) 0 0)) ≡ none
+header-quiet : (c : tie.Else2) → let bs = c .before .before .before .before .before .before .before .before .args .block .now in
+    first (headerCauses (getD (words bs) 0 0)) ≡ none
 header-quiet c = header-is (c .before .before) ∙ passed (c .before .number2 .ensures) (c .if2 .left)
 
-count-is : (c : tie.After-knot-count) → let bs = c .before .before .before .before .before .before .before .before .before .args .block .now in c .knot-count .result ≡ knotCount (getD (words bs) 0 0)
+count-is : (c : tie.After-knot-count) → let bs = c .before .before .before .before .before .before .before .before .before .args .block .now in
+    c .knot-count .result ≡ knotCount (getD (words bs) 0 0)
 count-is c = c .knot-count .ensures ∙ ap knotCount (c .before .before .before .before .load .ensures .0)
 
 -- at most 129 knots
-counted : (c : tie.After-knot-count) → let bs = c .before .before .before .before .before .before .before .before .before .args .block .now in knotCount (getD (words bs) 0 0) ≤ knotsMax
+counted : (c : tie.After-knot-count) → let bs = c .before .before .before .before .before .before .before .before .before .args .block .now in
+    knotCount (getD (words bs) 0 0) ≤ knotsMax
 counted c =
     let w = getD (words (c .before .before .before .before .before .before .before .before .before .args .block .now)) 0 0 in
     ltb-false knotsMax (knotCount w) (quiet (headerCauses w) (header-quiet (c .before)) .1 .0)

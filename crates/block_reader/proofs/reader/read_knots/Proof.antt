@@ -45,7 +45,8 @@ free-requires c κs = search needs
 
 -- ---- nothing read yet
 
-nothing-yet : (ws : List ℕ) (count : ℕ) (knots : List Knot) (free : Knot) → length knots ≡ knotsMax → Come ws count knots (record { there = false; knot = free }) 0 1
+nothing-yet : (ws : List ℕ) (count : ℕ) (knots : List Knot) (free : Knot) → length knots ≡ knotsMax →
+    Come ws count knots (record { there = false; knot = free }) 0 1
 nothing-yet ws count knots free room =
     let all : count ≡ count - 0 = omega arith in
     record {
@@ -85,7 +86,8 @@ module _ (g : After-grade) where
   word-passed =
       let n = g .before .before in
       let l = n .before .before in
-      sym (ap (λ u. first (knotCauses (neighbour (between g .words .last)) u)) (l .load .ensures .0)) ∙ sym (n .before .knot-fault .ensures) ∙ passed (n .number2 .ensures) (g .before .if2 .left)
+      sym (ap (λ u. first (knotCauses (neighbour (between g .words .last)) u)) (l .load .ensures .0)) ∙ sym (n .before .knot-fault .ensures) ∙
+      passed (n .number2 .ensures) (g .before .if2 .left)
 
   grade-is : g .grade .result ≡ grade (getD (the-words (between g)) (between g .words .i) 0)
   grade-is = g .grade .ensures ∙ ap grade (g .before .before .before .before .load .ensures .0)
@@ -127,7 +129,16 @@ add-load : tie.Need-add-load Inv-loop μ-loop Inv-words μ-words
 add-load c = record { fits = omega (arith, between (c .before .before) .words .inv .place, one-more-knot (c .before .before), count-most (c .before .before)) }
 
 add-load-2 : tie.Need-add-load-2 Inv-loop μ-loop Inv-words μ-words
-add-load-2 c = record { fits = omega (arith, between (c .before .before) .words .inv .place, one-more-knot (c .before .before), count-most (c .before .before), c .loop-test .taken, grade-most (c .before .before)) }
+add-load-2 c = record {
+  fits = omega (
+    arith,
+    between (c .before .before) .words .inv .place,
+    one-more-knot (c .before .before),
+    count-most (c .before .before),
+    c .loop-test .taken,
+    grade-most (c .before .before),
+  );
+}
 
 load-requires-2 : tie.Need-load-requires-2 Inv-loop μ-loop Inv-words μ-words
 load-requires-2 c κs = search needs
@@ -160,11 +171,13 @@ loop-again c =
     let at = the-words (between g) in
     let i = between g .words .i in
     let j = l .before .loop .j in
-    stored at i (g .grade .result) j (l .before .loop .coefficients) (record { sfits = c .payload .ok }) (c .payload .ensures ∙ ap payload (c .before .before .before .load2 .ensures .0))
+    stored at i (g .grade .result) j (l .before .loop .coefficients) (record { sfits = c .payload .ok })
+    (c .payload .ensures ∙ ap payload (c .before .before .before .load2 .ensures .0))
     (one-more at i (g .grade .result) (l .before .loop .coefficients) j (l .before .loop .inv) (l .loop-test .taken)
     (sym (ap kind (c .before .before .before .load2 .ensures .0)) ∙ sym (c .before .before .kind .ensures) ∙ c .before .match .keys1) (grade-most g))
   where
-    stored : (ws : List ℕ) (i m j : ℕ) (l : List ℤ) {z y : ℤ} → SFits w32 z → z ≡ y → Coefficients ws i m (set l j y) (j + 1) → Coefficients ws i m (set l j (toZ w32 (ofZ w32 z))) (j + 1)
+    stored : (ws : List ℕ) (i m j : ℕ) (l : List ℤ) {z y : ℤ} → SFits w32 z → z ≡ y → Coefficients ws i m (set l j y) (j + 1) →
+        Coefficients ws i m (set l j (toZ w32 (ofZ w32 z))) (j + 1)
     stored ws i m j l fits e come = rw (toZ-ofZ fits, e) come
 
 position-requires : tie.Need-position-requires Inv-loop μ-loop Inv-words μ-words
@@ -182,7 +195,8 @@ module _ (c : After-position) where
   position-is : c .position .result ≡ position (getD (the-words (between (word-read c))) (between (word-read c) .words .i) 0)
   position-is = c .position .ensures ∙ ap position (word-read c .before .before .before .before .load .ensures .0)
 
-  all-read : Coefficients (the-words (between (word-read c))) (between (word-read c) .words .i) (word-read c .grade .result) (c .before .before .loop .coefficients) (word-read c .grade .result + 1)
+  all-read : Coefficients (the-words (between (word-read c))) (between (word-read c) .words .i) (word-read c .grade .result)
+      (c .before .before .loop .coefficients) (word-read c .grade .result + 1)
   all-read =
       let l = c .before .before .loop in
       let g = word-read c in
@@ -196,7 +210,8 @@ module _ (c : After-position) where
       let last = between g .words .last in
       let x = position (getD (the-words (between g)) (between g .words .i) 0) in
       let q = quiet (knotCauses (neighbour last) (getD (the-words (between g)) (between g .words .i) 0)) (word-passed g) in
-      moved (scan (last .knot)) position-is (placed (neighbour last) x (q .1 .0) (q .1 .1 .0) .near (scan (last .knot)) (ap (λ b. neighbour (record { there = b; knot = last .knot })) there))
+      moved (scan (last .knot)) position-is (placed (neighbour last) x (q .1 .0) (q .1 .1 .0) .near (scan (last .knot))
+      (ap (λ b. neighbour (record { there = b; knot = last .knot })) there))
     where
       moved : {x y : ℕ} (held : Scan) → x ≡ y → gap held y ≤ gapMax → gap held x ≤ gapMax
       moved held e h = rw e h
@@ -208,7 +223,8 @@ cast-t32 : tie.Need-cast-t32 Inv-loop μ-loop Inv-words μ-words
 cast-t32 c = record { fits = omega (arith, grade-most (c .before .before .before)) }
 
 size-cause-requires : tie.Need-size-cause-requires Inv-loop μ-loop Inv-words μ-words
-size-cause-requires c κs = (record { room = c .before .before .loop .inv .room; grade = grade-most (word-read c) }, between (word-read c) .words .inv .lastGraded, close c)
+size-cause-requires c κs =
+    (record { room = c .before .before .loop .inv .room; grade = grade-most (word-read c) }, between (word-read c) .words .inv .lastGraded, close c)
 
 number-requires-4 : tie.Need-number-requires-4 Inv-loop μ-loop Inv-words μ-words
 number-requires-4 c κs = search needs
@@ -226,7 +242,8 @@ add-i : tie.Need-add-i Inv-loop μ-loop Inv-words μ-words
 add-i c = let g = c .before .before .before .before .before .before in record { fits = omega (arith, grade-most g) }
 
 add-i-2 : tie.Need-add-i-2 Inv-loop μ-loop Inv-words μ-words
-add-i-2 c = let g = c .before .before .before .before .before .before in record { fits = omega (arith, grade-most g, between g .words .inv .place, one-more-knot g, count-most g) }
+add-i-2 c = let g = c .before .before .before .before .before .before in record
+    { fits = omega (arith, grade-most g, between g .words .inv .place, one-more-knot g, count-most g) }
 
 words-less : tie.Need-words-less Inv-loop μ-loop Inv-words μ-words
 words-less c = let g = c .before .before .before .before .before .before in omega (arith, one-more-knot g)
@@ -237,7 +254,8 @@ words-again c =
     let g = word-read p in
     let w = between g in
     taken (the-words w) (the-count w) (w .words .knots) (w .words .last) (w .words .k) (w .words .i) (w .words .inv) (one-more-knot g)
-    (p .position .result) (g .grade .result) (p .before .before .loop .coefficients) (word-passed g) (position-is p) (grade-is g) (all-read p) (count-most g) (grade-most g)
+    (p .position .result) (g .grade .result) (p .before .before .loop .coefficients) (word-passed g) (position-is p) (grade-is g) (all-read p)
+    (count-most g) (grade-most g)
     (sym (c .before .before .size-cause .ensures) ∙ passed (c .before .number4 .ensures) (c .if3 .left))
 
 -- ---- the first fault, or the end
@@ -250,7 +268,8 @@ returns c =
     let all : w .words .k ≡ the-count w = omega (arith, t .if1 .taken, come .within) in
     let rest : the-count w - w .words .k ≡ 0 = omega (arith, all) in
     let ends : fault (the-words w) (the-count w) ≡ refusal (c .before .end-fault .result) =
-    come .faults ∙ ap (λ n. first (knotsCauses (length (the-words w) - 1) n (neighbour (w .words .last)) (drop (w .words .i) (the-words w)))) rest ∙ sym (c .before .end-fault .ensures) in
+    come .faults ∙ ap (λ n. first (knotsCauses (length (the-words w) - 1) n (neighbour (w .words .last)) (drop (w .words .i) (the-words w)))) rest ∙
+    sym (c .before .end-fault .ensures) in
     record {
       number = rw ends (c .number .ensures);
       room = come .room;

@@ -121,8 +121,10 @@ returns c =
     let s = entered l in
     let h = l .before .before .before in (
       omega (arith, counted e, block-words (scansOf s)),
-      block-stored _ (s .args .t1) (s .args .count) (s .pre .0) (l .loop .out) (l .loop .i) (l .loop .k) (l .loop .inv) (e .loop-test .left) (s .args .out .now) _
-          (h .before .header-word .result) (w .before .end-word .result) (h .before .header-word .ensures) (h .store .ensures) (w .before .end-word .ensures) (w .store2 .ensures) (s .pre .1),
+      block-stored _ (s .args .t1) (s .args .count) (s .pre .0) (l .loop .out) (l .loop .i) (l .loop .k) (l .loop .inv) (e .loop-test .left)
+          (s .args .out .now) _
+          (h .before .header-word .result) (w .before .end-word .result) (h .before .header-word .ensures) (h .store .ensures)
+          (w .before .end-word .ensures) (w .store2 .ensures) (s .pre .1),
     )
 
 pub write-spec : {M : Type 1} → statement M

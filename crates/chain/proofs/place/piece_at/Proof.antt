@@ -70,10 +70,12 @@ mul-if1 c = search needs
 
 -- the scan in the middle
 middle : (c : tie.After-struct-known Inv-loop μ-loop) → let l = c .before .before .before in
-    mark (scansIn (l .before .args .count) (l .before .args .t1)) (l .loop .low + (l .loop .high - l .loop .low) / 2) ≡ 256 * knotIn (l .before .args .t1) (l .loop .low + (l .loop .high - l .loop .low) / 2) .position
+    mark (scansIn (l .before .args .count) (l .before .args .t1)) (l .loop .low + (l .loop .high - l .loop .low) / 2) ≡ 256 * knotIn
+    (l .before .args .t1) (l .loop .low + (l .loop .high - l .loop .low) / 2) .position
 middle c =
     let l = c .before .before .before in
-    ap (λ s. 256 * s .position) (scan-at (l .before .args .t1) (l .before .args .count) (l .before .pre .chained) _ (omega (arith, c .before .before .loop-test .taken, l .loop .inv .end, counted (l .before))))
+    ap (λ s. 256 * s .position) (scan-at (l .before .args .t1) (l .before .args .count) (l .before .pre .chained) _
+    (omega (arith, c .before .before .loop-test .taken, l .loop .inv .end, counted (l .before))))
 
 loop-less : tie.Need-loop-less Inv-loop μ-loop
 loop-less c = omega arith
@@ -114,7 +116,9 @@ returns c =
     let b = l .before in
     let scans = scansIn (b .args .count) (b .args .t1) in
     let st = b .pre .chained .standing in
-    has-one scans st (b .args .x) (l .loop .low) (pieceAt scans (b .args .x)) (found scans st (b .args .x) (l .loop .low) (l .loop .high) (l .loop .inv) (c .loop-test .left)) (has-reached (b .args .t1) (b .args .count) (b .args .x) (b .pre))
+    has-one scans st (b .args .x) (l .loop .low) (pieceAt scans (b .args .x))
+    (found scans st (b .args .x) (l .loop .low) (l .loop .high) (l .loop .inv) (c .loop-test .left))
+    (has-reached (b .args .t1) (b .args .count) (b .args .x) (b .pre))
 
 pub piece-at-spec : {M : Type 1} → statement M
 piece-at-spec =

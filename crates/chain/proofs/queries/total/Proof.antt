@@ -42,7 +42,8 @@ one-more scans i k h =
 totals-within : (scans : List Scan) → Standing scans → (i j : ℕ) → i ≤ j → j < length scans → Within (2 ^ 61) (totalOver scans i j)
 unfolding totalOver
 totals-within scans st i j h b =
-    within-more (mul-le-mul-right (2 ^ 54) few) (sum-within _ (2 ^ 54) i (j - i) (λ k l g. total-within (pieceOf scans k) (piece-admitted scans st k (omega arith))))
+    within-more (mul-le-mul-right (2 ^ 54) few) (sum-within _ (2 ^ 54) i (j - i)
+    (λ k l g. total-within (pieceOf scans k) (piece-admitted scans st k (omega arith))))
   where
     few : j - i ≤ 128
     few = omega (arith, st .count)
@@ -90,8 +91,11 @@ total-between-requires c κs =
     let t = c .before .before in
     let l = t .before in
     let b = l .before in
-    let filled = b .pre .0 .filled in
-    (filled .graded (l .loop .k) (omega (arith, inside t)), filled .graded (l .loop .k + 1) (inside t), between-admitted (b .args .t1) (b .args .count) (b .pre .0) (l .loop .k) (inside t))
+    let filled = b .pre .0 .filled in (
+      filled .graded (l .loop .k) (omega (arith, inside t)),
+      filled .graded (l .loop .k + 1) (inside t),
+      between-admitted (b .args .t1) (b .args .count) (b .pre .0) (l .loop .k) (inside t),
+    )
 
 -- one piece more
 module _ (c : tie.After-total-between Inv-loop μ-loop) where
@@ -108,14 +112,16 @@ module _ (c : tie.After-total-between Inv-loop μ-loop) where
   more =
       let l = turn .before in
       ap₂ (λ a b. a +ℤ b) (l .loop .inv .is)
-      (result-is (c .total-between .result) (c .total-between .ok) ∙ c .total-between .ensures ∙ ap total (between-is (start .args .t1) (start .args .count) (start .pre .0) (l .loop .k) (inside turn))) ∙
+      (result-is (c .total-between .result) (c .total-between .ok) ∙ c .total-between .ensures ∙
+      ap total (between-is (start .args .t1) (start .args .count) (start .pre .0) (l .loop .k) (inside turn))) ∙
       sym (one-more scans (start .args .i) (l .loop .k) (l .loop .inv .from))
 
   fits : SFits w64 (totalOver scans (start .args .i) (turn .before .loop .k + 1))
   fits =
       let l = turn .before in
       within-fits w64 _ (lit< tt)
-      (totals-within scans (start .pre .0 .standing) (start .args .i) (l .loop .k + 1) (omega (arith, l .loop .inv .from)) (omega (arith, inside turn, count-is (start .args .t1) (start .args .count) (start .pre .0))))
+      (totals-within scans (start .pre .0 .standing) (start .args .i) (l .loop .k + 1) (omega (arith, l .loop .inv .from))
+      (omega (arith, inside turn, count-is (start .args .t1) (start .args .count) (start .pre .0))))
 
 add-sum : tie.Need-add-sum Inv-loop μ-loop
 add-sum c = rw (more c) (fits c)

@@ -20,7 +20,8 @@ use Rattle.first_cause.proofs.changes.append_cause.Tie as tie
 -- ---- 2 and 3
 
 returns : tie.Need-returns
-returns c = let a = c .before .args in refuses _ _ _ refl (full (a .count) (beside (ltb 0 (a .count)) (a .held)) (a .position) (a .coefficients .now) (c .if1 .taken))
+returns c =
+    let a = c .before .args in refuses _ _ _ refl (full (a .count) (beside (ltb 0 (a .count)) (a .held)) (a .position) (a .coefficients .now) (c .if1 .taken))
 
 list-cause-requires : tie.Need-list-cause-requires
 list-cause-requires c κs = search needs
@@ -33,7 +34,8 @@ returns-2 c =
     let l = c .before .before .before in
     let a = l .before .before .args in
     refuses _ _ _ refl
-    (append-list (a .count) (beside (ltb 0 (a .count)) (a .held)) (a .position) (a .coefficients .now) (l .before .if1 .left) (sym (l .list-cause .ensures) ∙ ap refusal (c .before .cause .given .1)))
+    (append-list (a .count) (beside (ltb 0 (a .count)) (a .held)) (a .position) (a .coefficients .now) (l .before .if1 .left)
+    (sym (l .list-cause .ensures) ∙ ap refusal (c .before .cause .given .1)))
 
 enum-told : tie.Need-enum-told
 enum-told c = search needs
@@ -57,12 +59,14 @@ returns-3 c =
     let p = c .before .before .before in
     let a = start p .args in
     refuses _ _ _ refl
-    (append-position (a .count) (beside (ltb 0 (a .count)) (a .held)) (a .position) (a .coefficients .now) (p .before .before .before .before .if1 .left) (list-passed (p .before)) (sym (p .position-cause .ensures) ∙ ap refusal (c .before .cause2 .given .1)))
+    (append-position (a .count) (beside (ltb 0 (a .count)) (a .held)) (a .position) (a .coefficients .now)
+    (p .before .before .before .before .if1 .left) (list-passed (p .before)) (sym (p .position-cause .ensures) ∙ ap refusal (c .before .cause2 .given .1)))
 
 enum-told-2 : tie.Need-enum-told-2
 enum-told-2 c = search needs
 
-position-passed : (c : tie.After-enum-told2) → let a = start (c .before .before) .args in first (positionCauses (beside (ltb 0 (a .count)) (a .held)) (a .position)) ≡ none
+position-passed : (c : tie.After-enum-told2) → let a = start (c .before .before) .args in
+    first (positionCauses (beside (ltb 0 (a .count)) (a .held)) (a .position)) ≡ none
 position-passed c = sym (c .before .before .position-cause .ensures) ∙ ap refusal (c .enum-told2 .given .1)
 
 place : (c : tie.After-enum-told2) → let a = start (c .before .before) .args in Placed (beside (ltb 0 (a .count)) (a .held)) (a .position)
@@ -100,7 +104,8 @@ returns-4 c =
     let o = c .before in
     let p = o .before .before .before in
     let a = start p .args in
-    let rest = append-size (a .count) (beside (ltb 0 (a .count)) (a .held)) (a .position) (a .coefficients .now) (p .before .before .before .before .if1 .left) (list-passed (p .before)) (position-passed (o .before)) in
+    let rest = append-size (a .count) (beside (ltb 0 (a .count)) (a .held)) (a .position) (a .coefficients .now)
+    (p .before .before .before .before .if1 .left) (list-passed (p .before)) (position-passed (o .before)) in
     record {
       verdict = c .size-cause .ensures ∙ ap (λ s. first (sizeCauses (beside (ltb 0 (a .count)) (a .held)) s)) (o .of .ensures .is) ∙ sym rest;
       knot = λ e. o .of .ensures;

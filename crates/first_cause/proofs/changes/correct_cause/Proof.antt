@@ -24,7 +24,8 @@ returns : tie.Need-returns
 returns c =
     let a = c .before .args in
     refuses _ _ _ refl
-    (no-knot (a .k) (a .count) (beside (ltb 0 (a .k)) (a .previous)) (a .old .position) (beside (ltb (a .k + 1) (a .count)) (a .following)) (a .coefficients .now) (c .if1 .taken))
+    (no-knot (a .k) (a .count) (beside (ltb 0 (a .k)) (a .previous)) (a .old .position) (beside (ltb (a .k + 1) (a .count)) (a .following))
+    (a .coefficients .now) (c .if1 .taken))
 
 list-cause-requires : tie.Need-list-cause-requires
 list-cause-requires c κs = search needs
@@ -37,7 +38,8 @@ returns-2 c =
     let l = c .before .before .before in
     let a = l .before .before .args in
     refuses _ _ _ refl
-    (correct-list (a .k) (a .count) (beside (ltb 0 (a .k)) (a .previous)) (a .old .position) (beside (ltb (a .k + 1) (a .count)) (a .following)) (a .coefficients .now) (l .before .if1 .left) (sym (l .list-cause .ensures) ∙ ap refusal (c .before .cause .given .1)))
+    (correct-list (a .k) (a .count) (beside (ltb 0 (a .k)) (a .previous)) (a .old .position) (beside (ltb (a .k + 1) (a .count)) (a .following))
+    (a .coefficients .now) (l .before .if1 .left) (sym (l .list-cause .ensures) ∙ ap refusal (c .before .cause .given .1)))
 
 enum-told : tie.Need-enum-told
 enum-told c = search needs
@@ -65,14 +67,18 @@ size-rule-requires c κs =
 
 -- the size rule says the rest
 rest : (c : tie.After-size-rule) → let a = start (c .before .before) .args in
-    first (correctCauses (a .k) (a .count) (beside (ltb 0 (a .k)) (a .previous)) (a .old .position) (beside (ltb (a .k + 1) (a .count)) (a .following)) (a .coefficients .now)) ≡ cond (not (c .size-rule .result)) (some 6) none
+    first (correctCauses (a .k) (a .count) (beside (ltb 0 (a .k)) (a .previous)) (a .old .position) (beside (ltb (a .k + 1) (a .count)) (a .following))
+    (a .coefficients .now)) ≡ cond (not (c .size-rule .result)) (some 6) none
 rest c =
     let a = start (c .before .before) .args in
-    correct-size (a .k) (a .count) (beside (ltb 0 (a .k)) (a .previous)) (a .old .position) (beside (ltb (a .k + 1) (a .count)) (a .following)) (a .coefficients .now) (c .before .before .before .before .before .if1 .left) (list-passed (c .before .before)) ∙
-    ap (λ b. cond (not b) (some 6) none) (ap (λ s. sizeRule (beside (ltb 0 (a .k)) (a .previous)) s (beside (ltb (a .k + 1) (a .count)) (a .following))) (sym (c .before .of .ensures .is)) ∙ sym (c .size-rule .ensures))
+    correct-size (a .k) (a .count) (beside (ltb 0 (a .k)) (a .previous)) (a .old .position) (beside (ltb (a .k + 1) (a .count)) (a .following))
+    (a .coefficients .now) (c .before .before .before .before .before .if1 .left) (list-passed (c .before .before)) ∙
+    ap (λ b. cond (not b) (some 6) none) (ap (λ s. sizeRule (beside (ltb 0 (a .k)) (a .previous)) s (beside (ltb (a .k + 1) (a .count)) (a .following)))
+    (sym (c .before .of .ensures .is)) ∙ sym (c .size-rule .ensures))
 
 returns-3 : tie.Need-returns-3
-returns-3 c = let no = not-true (c .before .size-rule .result) (c .if2 .taken) in refuses _ _ _ refl (rest (c .before) ∙ ap (λ b. cond (not b) (some 6) none) no)
+returns-3 c =
+    let no = not-true (c .before .size-rule .result) (c .if2 .taken) in refuses _ _ _ refl (rest (c .before) ∙ ap (λ b. cond (not b) (some 6) none) no)
 
 returns-4 : tie.Need-returns-4
 returns-4 c =

@@ -32,12 +32,22 @@ cast-if4 c = search needs
 returns-4 : tie.Need-returns-4
 returns-4 c =
     let n = c .before .before .before in
-    rw (le-ltb _ _ (n .before .before .if1 .left), not-false (n .before .before .before .args .last .there) (n .if2 .left), lt-leb _ _ (c .before .if3 .left), lt-ltb _ _ (c .if4 .taken)) refl
+    rw (
+      le-ltb _ _ (n .before .before .if1 .left),
+      not-false (n .before .before .before .args .last .there) (n .if2 .left),
+      lt-leb _ _ (c .before .if3 .left),
+      lt-ltb _ _ (c .if4 .taken),
+    ) refl
 
 returns-5 : tie.Need-returns-5
 returns-5 c =
     let n = c .before .before .before in
-    rw (le-ltb _ _ (n .before .before .if1 .left), not-false (n .before .before .before .args .last .there) (n .if2 .left), lt-leb _ _ (c .before .if3 .left), le-ltb _ _ (c .if4 .left)) refl
+    rw (
+      le-ltb _ _ (n .before .before .if1 .left),
+      not-false (n .before .before .before .args .last .there) (n .if2 .left),
+      lt-leb _ _ (c .before .if3 .left),
+      le-ltb _ _ (c .if4 .left),
+    ) refl
 
 pub position-cause-spec : {M : Type 1} → statement M
 position-cause-spec =

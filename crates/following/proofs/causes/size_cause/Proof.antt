@@ -28,7 +28,8 @@ followed : (c : tie.Joined1) → let b = c .before in
 followed c =
     let b = c .before in
     kept-held (b .args .last .there) (scan (b .args .last .knot)) (scan (b .args .next))
-    (⊎-elim (λ w e. sized-at (rightList (scan (b .args .last .knot))) (w .2 .ensures) (w .3 .ensures) (not-false (w .3 .result) (w .4 .left))) (λ w e. absurd (true≢false (sym e ∙ w .left))) (c .if1 .came))
+    (⊎-elim (λ w e. sized-at (rightList (scan (b .args .last .knot))) (w .2 .ensures) (w .3 .ensures) (not-false (w .3 .result) (w .4 .left)))
+    (λ w e. absurd (true≢false (sym e ∙ w .left))) (c .if1 .came))
 
 returns : tie.Need-returns
 returns c =
@@ -36,7 +37,8 @@ returns c =
     rw (
       c .before .before .before .before .if1 .taken,
       broken-held (scan (b .args .last .knot)) (scan (b .args .next))
-          (sized-at (rightList (scan (b .args .last .knot))) (c .before .before .gap .ensures) (c .before .right-sized .ensures) (not-true (c .before .right-sized .result) (c .if2 .taken))),
+          (sized-at (rightList (scan (b .args .last .knot))) (c .before .before .gap .ensures) (c .before .right-sized .ensures)
+          (not-true (c .before .right-sized .result) (c .if2 .taken))),
     ) refl
 
 size-rule-requires : tie.Need-size-rule-requires

@@ -26,7 +26,8 @@ returns c =
     let b = c .before .before .before .before in
     rw (c .before .before .before .if1 .taken)
     (sym (broken-left (scan (b .args .left .knot)) (scan (b .args .knot)) (neighbour (b .args .right))
-    (sized-at (leftList (scan (b .args .knot))) (c .before .before .gap .ensures) (c .before .left-sized .ensures) (not-true (c .before .left-sized .result) (c .if2 .taken)))))
+    (sized-at (leftList (scan (b .args .knot))) (c .before .before .gap .ensures) (c .before .left-sized .ensures)
+    (not-true (c .before .left-sized .result) (c .if2 .taken)))))
 
 gap-requires-2 : tie.Need-gap-requires-2
 gap-requires-2 c κs = search needs
@@ -37,15 +38,18 @@ right-sized-requires c κs =
     (b .pre .0, omega (arith, c .gap2 .ensures, b .pre .2 (c .before .if3 .taken)))
 
 -- where there is a knot on the left, the rule was kept at its gap
-left-kept : (c : tie.Joined1) → let b = c .before in b .args .left .there ≡ true → sized (gap (scan (b .args .left .knot)) (b .args .knot .position)) (leftList (scan (b .args .knot))) ≡ true
+left-kept : (c : tie.Joined1) → let b = c .before in
+    b .args .left .there ≡ true → sized (gap (scan (b .args .left .knot)) (b .args .knot .position)) (leftList (scan (b .args .knot))) ≡ true
 left-kept c =
-    ⊎-elim (λ w e. sized-at (leftList (scan (c .before .args .knot))) (w .1 .ensures) (w .2 .ensures) (not-false (w .2 .result) (w .3 .left))) (λ w e. absurd (true≢false (sym e ∙ w .left))) (c .if1 .came)
+    ⊎-elim (λ w e. sized-at (leftList (scan (c .before .args .knot))) (w .1 .ensures) (w .2 .ensures) (not-false (w .2 .result) (w .3 .left)))
+    (λ w e. absurd (true≢false (sym e ∙ w .left))) (c .if1 .came)
 
 returns-2 : tie.Need-returns-2
 returns-2 c =
     let b = c .before .before .before .before in
     rw (c .before .before .if3 .taken)
-    (sym (kept-left (b .args .left .there) (scan (b .args .left .knot)) (scan (b .args .knot)) (scan (b .args .right .knot)) (left-kept (c .before .before .before)) ∙
+    (sym (kept-left (b .args .left .there) (scan (b .args .left .knot)) (scan (b .args .knot)) (scan (b .args .right .knot))
+    (left-kept (c .before .before .before)) ∙
     sized-at (rightList (scan (b .args .knot))) (c .before .gap2 .ensures) (c .right-sized .ensures) refl))
 
 returns-3 : tie.Need-returns-3

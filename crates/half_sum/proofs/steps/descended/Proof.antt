@@ -31,7 +31,8 @@ module _ (b : tie.Start Inv-loop μ-loop) where
   unit-fits j h = within-fits w64 _ (lit< tt) (within-mul (pos valueUnit) (coefficient (b .args .g .now) j) (within-natural valueUnit) (b .pre .2 .small j h))
 
   u-within : (k i : ℕ) → i + k ≤ 7 → Within (2 ^ 63 - 1) (descended (coefficient (b .args .g .now)) (b .args .a) (b .args .divisor .d) k i)
-  u-within k i h = descended-fits (coefficient (b .args .g .now)) (b .args .a) (b .args .divisor .d) k i (b .pre .1 .divides .atLeast) (b .pre .1 .proper) h (b .pre .2 .small)
+  u-within k i h = descended-fits (coefficient (b .args .g .now)) (b .args .a) (b .args .divisor .d) k i (b .pre .1 .divides .atLeast)
+      (b .pre .1 .proper) h (b .pre .2 .small)
 
   u-fits : (k i : ℕ) → i + k ≤ 7 → SFits w64 (descended (coefficient (b .args .g .now)) (b .args .a) (b .args .divisor .d) k i)
   u-fits k i h = within-fits w64 _ (lit< tt) (u-within k i h)
@@ -82,8 +83,15 @@ round c =
     let b = l .before .before in
     let next : b .args .m - (l .loop .i - 1) ≡ suc (b .args .m - l .loop .i) = omega arith in
     let back : suc (l .loop .i - 1) ≡ l .loop .i = omega arith in
-    rw (next, back, unit-is b (l .loop .i - 1) (omega arith), toZ-ofZ (unit-fits b (l .loop .i - 1) (omega arith)), result-is (c .before .scaled .result) (c .before .scaled .ok))
-    (ap (λ z. z +ℤ pos valueUnit *ℤ coefficient (b .args .g .now) (l .loop .i - 1)) (c .before .scaled .ensures ∙ ap (λ z. scaled z (b .args .a) (b .args .divisor .d)) (l .loop .inv .1)))
+    rw (
+      next,
+      back,
+      unit-is b (l .loop .i - 1) (omega arith),
+      toZ-ofZ (unit-fits b (l .loop .i - 1) (omega arith)),
+      result-is (c .before .scaled .result) (c .before .scaled .ok),
+    )
+    (ap (λ z. z +ℤ pos valueUnit *ℤ coefficient (b .args .g .now) (l .loop .i - 1))
+    (c .before .scaled .ensures ∙ ap (λ z. scaled z (b .args .a) (b .args .divisor .d)) (l .loop .inv .1)))
 
 add-u : tie.Need-add-u Inv-loop μ-loop
 add-u c =

@@ -28,13 +28,15 @@ descended-requires c κs =
       b .pre .2,
       record {
         count = c .before .sums .ensures .count;
-        small = λ j h. rw (c .before .sums .ensures .entry j h) (g-within (7 * sizeMax) (b .args .n) j (coefficient (b .args .w .now)) (b .pre .1) h (λ i k. b .pre .3 .small i (omega arith)));
+        small = λ j h. rw (c .before .sums .ensures .entry j h)
+            (g-within (7 * sizeMax) (b .args .n) j (coefficient (b .args .w .now)) (b .pre .1) h (λ i k. b .pre .3 .small i (omega arith)));
       },
     )
 
 -- u of step 2
 module _ (c : tie.After-descended) where
-  u-is : let b = c .before .before .before in c .descended .result ≡ descended (g (b .args .n) (coefficient (b .args .w .now))) (b .args .a) (b .args .divisor .d) (b .args .m) 0
+  u-is : let b = c .before .before .before in
+      c .descended .result ≡ descended (g (b .args .n) (coefficient (b .args .w .now))) (b .args .a) (b .args .divisor .d) (b .args .m) 0
   u-is =
       let b = c .before .before .before in
       c .descended .ensures ∙ descended-agree (b .args .a) (b .args .divisor .d) (b .args .m) 0 (λ j h. c .before .before .sums .ensures .entry j (omega arith))
@@ -54,15 +56,18 @@ add-scaled-times c = search needs
 
 scaled-times-requires : tie.Need-scaled-times-requires
 scaled-times-requires c κs =
-    let b = c .before .before .before .before in
-    (record { divides = b .pre .2 .divides; proper = omega arith }, rw (result-is (c .before .descended .result) (c .before .descended .ok)) (u-within (c .before)))
+    let b = c .before .before .before .before in (
+      record { divides = b .pre .2 .divides; proper = omega arith },
+      rw (result-is (c .before .descended .result) (c .before .descended .ok)) (u-within (c .before)),
+    )
 
 returns : tie.Need-returns
 unfolding halfSum
 returns c =
     let b = c .before .before .before .before .before in
     result-is (c .scaled-times .result) (c .scaled-times .ok) ∙ c .scaled-times .ensures ∙
-    ap (λ z. scaledTimes (b .args .n + 1) z (b .args .divisor .d - b .args .a) (b .args .divisor .d)) (result-is (c .before .before .descended .result) (c .before .before .descended .ok) ∙ u-is (c .before .before))
+    ap (λ z. scaledTimes (b .args .n + 1) z (b .args .divisor .d - b .args .a) (b .args .divisor .d))
+    (result-is (c .before .before .descended .result) (c .before .before .descended .ok) ∙ u-is (c .before .before))
 
 pub half-sum-spec : {M : Type 1} → statement M
 half-sum-spec =

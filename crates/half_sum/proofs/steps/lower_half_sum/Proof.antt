@@ -38,7 +38,9 @@ lower-is m k n a d w e = rw e refl
 returns-2 : tie.Need-returns-2
 returns-2 c =
     let b = c .before .before .before .before in
-    let half : c .half-sum .result ≡ halfSum (b .args .m - 1) (b .args .n) (b .args .a) (b .args .divisor .d) (coefficient (c .before .before .primed .result)) = c .half-sum .ensures in
+    let half : c .half-sum .result ≡ halfSum (b .args .m - 1) (b .args .n) (b .args .a) (b .args .divisor .d)
+    (coefficient (c .before .before .primed .result)) =
+    c .half-sum .ensures in
     result-is (c .half-sum .result) (c .half-sum .ok) ∙ half ∙
     halfSum-agree (b .args .m - 1) (b .args .n) (b .args .a) (b .args .divisor .d) (λ j h. c .before .before .primed .ensures .entry j (omega arith)) ∙
     lower-is (b .args .m) (b .args .m - 1) (b .args .n) (b .args .a) (b .args .divisor .d) (coefficient (b .args .w .now)) (omega arith)

@@ -26,13 +26,17 @@ shared-slice-copy-out-sum : tie.Need-shared-slice-copy-out-sum Inv-loop μ-loop
 shared-slice-copy-out-sum c = omega (arith, c .before .pre .3 .count)
 
 mul-sum : tie.Need-mul-sum Inv-loop μ-loop
-mul-sum c = let b = c .before .before in rw (machine-term (b .args .c .now) (b .args .w .now) (b .pre .2) (b .pre .3) 0 (omega arith)) (term-fits (b .args .c .now) (b .args .w .now) (b .pre .2) (b .pre .3) 0 (omega arith))
+mul-sum c = let b = c .before .before in rw (machine-term (b .args .c .now) (b .args .w .now) (b .pre .2) (b .pre .3) 0 (omega arith))
+    (term-fits (b .args .c .now) (b .args .w .now) (b .pre .2) (b .pre .3) 0 (omega arith))
 
 loop-holds : tie.Need-loop-holds Inv-loop μ-loop
 unfolding Sum·sum
 loop-holds c =
-    let b = c .before .before in
-    (omega arith, ap (λ z. toZ w64 (ofZ w64 z)) (machine-term (b .args .c .now) (b .args .w .now) (b .pre .2) (b .pre .3) 0 (omega arith)) ∙ toZ-ofZ (term-fits (b .args .c .now) (b .args .w .now) (b .pre .2) (b .pre .3) 0 (omega arith)))
+    let b = c .before .before in (
+      omega arith,
+      ap (λ z. toZ w64 (ofZ w64 z)) (machine-term (b .args .c .now) (b .args .w .now) (b .pre .2) (b .pre .3) 0 (omega arith)) ∙
+          toZ-ofZ (term-fits (b .args .c .now) (b .args .w .now) (b .pre .2) (b .pre .3) 0 (omega arith)),
+    )
 
 add-j : tie.Need-add-j Inv-loop μ-loop
 add-j c = omega arith
@@ -44,7 +48,8 @@ shared-slice-read-sum-2 : tie.Need-shared-slice-read-sum-2 Inv-loop μ-loop
 shared-slice-read-sum-2 c = omega arith
 
 cast-sum-2 : tie.Need-cast-sum-2 Inv-loop μ-loop
-cast-sum-2 c = let b = c .before .before .before .before .before in entry-fits (b .args .c .now) (b .args .w .now) (b .pre .2) (b .pre .3) (c .before .before .loop .j + 1)
+cast-sum-2 c =
+    let b = c .before .before .before .before .before in entry-fits (b .args .c .now) (b .args .w .now) (b .pre .2) (b .pre .3) (c .before .before .loop .j + 1)
 
 mul-sum-3 : tie.Need-mul-sum-3 Inv-loop μ-loop
 mul-sum-3 c = omega arith
@@ -56,13 +61,15 @@ mul-sum-4 : tie.Need-mul-sum-4 Inv-loop μ-loop
 mul-sum-4 c =
     let l = c .before .before .before in
     let b = l .before .before .before in
-    rw (machine-term (b .args .c .now) (b .args .w .now) (b .pre .2) (b .pre .3) (l .loop .j + 1) (omega arith)) (term-fits (b .args .c .now) (b .args .w .now) (b .pre .2) (b .pre .3) (l .loop .j + 1) (omega arith))
+    rw (machine-term (b .args .c .now) (b .args .w .now) (b .pre .2) (b .pre .3) (l .loop .j + 1) (omega arith))
+    (term-fits (b .args .c .now) (b .args .w .now) (b .pre .2) (b .pre .3) (l .loop .j + 1) (omega arith))
 
 add-sum : tie.Need-add-sum Inv-loop μ-loop
 add-sum c =
     let l = c .before .before .before in
     let b = l .before .before .before in
-    rw (machine-sum (b .args .c .now) (b .args .w .now) (b .pre .2) (b .pre .3) _ (l .loop .j) (omega arith) (l .loop .inv .1)) (sum-fits (b .args .c .now) (b .args .w .now) (b .pre .2) (b .pre .3) (l .loop .j + 1) (omega arith))
+    rw (machine-sum (b .args .c .now) (b .args .w .now) (b .pre .2) (b .pre .3) _ (l .loop .j) (omega arith) (l .loop .inv .1))
+    (sum-fits (b .args .c .now) (b .args .w .now) (b .pre .2) (b .pre .3) (l .loop .j + 1) (omega arith))
 
 loop-less : tie.Need-loop-less Inv-loop μ-loop
 loop-less c = omega arith

@@ -41,7 +41,8 @@ module _ (c : tie.After-w Inv-loop μ-loop) where
   held = let l = c .before .before in l .loop .inv .2 .left (l .loop .j) (omega arith) (omega arith)
 
   held-fits : let l = c .before .before in SFits w64 (coefficient (l .before .args .q) (l .loop .j))
-  held-fits = let l = c .before .before in within-fits w64 (coefficient (l .before .args .q) (l .loop .j)) (lit< tt) (l .before .pre .small (l .loop .j) (omega arith))
+  held-fits =
+      let l = c .before .before in within-fits w64 (coefficient (l .before .args .q) (l .loop .j)) (lit< tt) (l .before .pre .small (l .loop .j) (omega arith))
 
   product-is : let l = c .before .before in
       toZ w64 (l .loop .sign) *ℤ toZ w64 (ofZ w64 (coefficient (l .loop .w) (l .loop .j))) ≡ rightWeights (coefficient (l .before .args .q)) (l .loop .j)
@@ -50,7 +51,9 @@ module _ (c : tie.After-w Inv-loop μ-loop) where
 
   weight-fits : let l = c .before .before in SFits w64 (rightWeights (coefficient (l .before .args .q)) (l .loop .j))
   unfolding rightWeights
-  weight-fits = let l = c .before .before in within-fits w64 _ (lit< tt) (within-mul (Binomial·sign (l .loop .j)) (coefficient (l .before .args .q) (l .loop .j)) (sign-within (l .loop .j)) (l .before .pre .small (l .loop .j) (omega arith)))
+  weight-fits = let l = c .before .before in within-fits w64 _ (lit< tt)
+      (within-mul (Binomial·sign (l .loop .j)) (coefficient (l .before .args .q) (l .loop .j)) (sign-within (l .loop .j))
+      (l .before .pre .small (l .loop .j) (omega arith)))
 
 mul-w-2 : tie.Need-mul-w-2 Inv-loop μ-loop
 mul-w-2 c = rw (product-is c) (weight-fits c)

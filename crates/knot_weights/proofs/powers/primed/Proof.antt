@@ -47,12 +47,14 @@ module _ (c : tie.After-v Inv-loop μ-loop) where
   held-fits = let l = c .before .before in within-fits w64 (coefficient (l .before .args .w .now) (l .loop .j + 1)) (lit< tt) held-small
 
   product-is : let l = c .before .before in
-      toZ w64 (l .loop .j + 1) *ℤ toZ w64 (ofZ w64 (coefficient (l .before .args .w .now) (l .loop .j + 1))) ≡ Slope·primed (coefficient (l .before .args .w .now)) (l .loop .j)
+      toZ w64 (l .loop .j + 1) *ℤ toZ w64 (ofZ w64 (coefficient (l .before .args .w .now) (l .loop .j + 1))) ≡ Slope·primed
+      (coefficient (l .before .args .w .now)) (l .loop .j)
   unfolding Slope·primed
   product-is = rw (toZ-ofZ held-fits, toZ-pos w64 {n = c .before .before .loop .j + 1} (omega arith)) refl
 
   weight-fits : let l = c .before .before in SFits w64 (Slope·primed (coefficient (l .before .args .w .now)) (l .loop .j))
-  weight-fits = let l = c .before .before in within-fits w64 _ (lit< tt) (primed-within (coefficient (l .before .args .w .now)) (l .loop .j) (omega arith) held-small)
+  weight-fits =
+      let l = c .before .before in within-fits w64 _ (lit< tt) (primed-within (coefficient (l .before .args .w .now)) (l .loop .j) (omega arith) held-small)
 
 mul-v-2 : tie.Need-mul-v-2 Inv-loop μ-loop
 mul-v-2 c = rw (product-is c) (weight-fits c)
@@ -73,7 +75,9 @@ loop-again c =
 
 returns : tie.Need-returns Inv-loop μ-loop
 unfolding Slope·primed
-returns c = filled-lists (c .before .loop .inv .1) (λ j h b. sym (ap (λ x. pos (j + 1) *ℤ x) (List·getD-eq-default (c .before .before .args .w .now) (pos 0) (omega (arith, c .before .before .pre .count))) ∙ *ℤ-zero (pos (j + 1))))
+returns c = filled-lists (c .before .loop .inv .1) (λ j h b. sym
+    (ap (λ x. pos (j + 1) *ℤ x) (List·getD-eq-default (c .before .before .args .w .now) (pos 0) (omega (arith, c .before .before .pre .count))) ∙
+    *ℤ-zero (pos (j + 1))))
 
 pub primed-spec : {M : Type 1} → statement M
 primed-spec =

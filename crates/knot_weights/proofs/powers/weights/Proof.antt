@@ -50,7 +50,12 @@ module _ (c : tie.After-w Inv-loop μ-loop) where
   product-is : let l = c .before .before in
       toZ w64 (ofZ w64 (toZ w32 (ofZ w32 (coefficient (l .before .args .c .now) (l .loop .j))))) *ℤ toZ w64 (l .loop .power) ≡
       weight (l .before .args .h) (l .before .args .c .now) (l .loop .j)
-  product-is = rw (toZ-ofZ coefficient-fits, toZ-ofZ wide-fits, toZ-pos w64 {n = c .before .before .loop .power} (omega (arith, this-power)), c .before .before .loop .inv .1) refl
+  product-is = rw (
+    toZ-ofZ coefficient-fits,
+    toZ-ofZ wide-fits,
+    toZ-pos w64 {n = c .before .before .loop .power} (omega (arith, this-power)),
+    c .before .before .loop .inv .1,
+  ) refl
 
   weight-fits : let l = c .before .before in SFits w64 (weight (l .before .args .h) (l .before .args .c .now) (l .loop .j))
   weight-fits =
@@ -94,7 +99,8 @@ loop-again c =
 returns : tie.Need-returns Inv-loop μ-loop
 returns c =
     let l = c .before in
-    filled-lists (l .loop .inv .2) (λ j h b. sym (ap (λ x. x *ℤ pos (l .before .args .h ^ j)) (List·getD-eq-default (l .before .args .c .now) (pos 0) (omega arith)) ∙ zero-*ℤ (pos (l .before .args .h ^ j))))
+    filled-lists (l .loop .inv .2) (λ j h b. sym (ap (λ x. x *ℤ pos (l .before .args .h ^ j))
+    (List·getD-eq-default (l .before .args .c .now) (pos 0) (omega arith)) ∙ zero-*ℤ (pos (l .before .args .h ^ j))))
 
 pub weights-spec : {M : Type 1} → statement M
 weights-spec =

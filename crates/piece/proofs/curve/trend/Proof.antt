@@ -75,16 +75,24 @@ slice-aggregate-sum-k c = search needs
 
 sum-k-requires : tie.Need-sum-k-requires
 sum-k-requires c κs =
-    let b = c .before .before .before .before .before .before .before .before .before in
-    (omega arith, omega arith, listed-weights (c .before .before .before .before .before .before .right-weights .ensures) (λ j. right-sized (b .args .h) (b .args .right .now) j (b .pre .0 .rightSize)))
+    let b = c .before .before .before .before .before .before .before .before .before in (
+      omega arith,
+      omega arith,
+      listed-weights (c .before .before .before .before .before .before .right-weights .ensures)
+          (λ j. right-sized (b .args .h) (b .args .right .now) j (b .pre .0 .rightSize)),
+    )
 
 slice-aggregate-sum-k-2 : tie.Need-slice-aggregate-sum-k-2
 slice-aggregate-sum-k-2 c = search needs
 
 sum-k-requires-2 : tie.Need-sum-k-requires-2
 sum-k-requires-2 c κs =
-    let b = c .before .before .before .before .before .before .before .before .before .before .before in
-    (omega arith, omega arith, listed-weights (c .before .before .before .before .before .before .before .before .before .weights .ensures) (λ j. sized-within (b .args .h) (b .args .left .now) j (b .pre .0 .leftSize)))
+    let b = c .before .before .before .before .before .before .before .before .before .before .before in (
+      omega arith,
+      omega arith,
+      listed-weights (c .before .before .before .before .before .before .before .before .before .weights .ensures)
+          (λ j. sized-within (b .args .h) (b .args .left .now) j (b .pre .0 .leftSize)),
+    )
 
 -- where the function starts, the piece, the place r in it, and its divisor D
 abbrev start : tie.After-sum-k2 → tie.Start
@@ -105,34 +113,43 @@ module _ (c : tie.After-sum-k2) where
   unfolding Y1
   y1-is =
       c .before .before .before .before .before .before .before .lower-half-sum .ensures ∙
-      ap (λ d. lowerHalfSum (m (P c)) (n (P c)) (at c) d (coefficient (c .before .before .before .before .before .before .before .before .before .before .weights .result))) (D-is c) ∙
-      lowerHalfSum-agree (m (P c)) (n (P c)) (at c) (D (P c)) (λ j h. c .before .before .before .before .before .before .before .before .before .before .weights .ensures .entry j (omega arith))
+      ap (λ d. lowerHalfSum (m (P c)) (n (P c)) (at c) d (coefficient
+      (c .before .before .before .before .before .before .before .before .before .before .weights .result))) (D-is c) ∙
+      lowerHalfSum-agree (m (P c)) (n (P c)) (at c) (D (P c))
+      (λ j h. c .before .before .before .before .before .before .before .before .before .before .weights .ensures .entry j (omega arith))
 
   y2-is : c .before .before .before .before .lower-half-sum2 .result ≡ Y2 (P c) (at c)
   unfolding Y2
   y2-is =
       c .before .before .before .before .lower-half-sum2 .ensures ∙
-      ap (λ d. lowerHalfSum (n (P c)) (m (P c)) (d - at c) d (coefficient (c .before .before .before .before .before .before .before .before .before .right-weights .result))) (D-is c) ∙
-      lowerHalfSum-agree (n (P c)) (m (P c)) (D (P c) - at c) (D (P c)) (λ j h. c .before .before .before .before .before .before .before .before .before .right-weights .ensures .entry j (omega arith))
+      ap (λ d. lowerHalfSum (n (P c)) (m (P c)) (d - at c) d
+      (coefficient (c .before .before .before .before .before .before .before .before .before .right-weights .result))) (D-is c) ∙
+      lowerHalfSum-agree (n (P c)) (m (P c)) (D (P c) - at c) (D (P c))
+      (λ j h. c .before .before .before .before .before .before .before .before .before .right-weights .ensures .entry j (omega arith))
 
   k-is : c .before .before .sum-k .result -ℤ c .sum-k2 .result ≡ K (m (P c)) (n (P c)) (p (P c)) (q (P c))
   unfolding K
   k-is =
       ap₂ (λ x y. x -ℤ y)
-      (c .before .before .sum-k .ensures ∙ sumK-agree (n (P c)) (m (P c)) (λ j h. c .before .before .before .before .before .before .before .before .before .right-weights .ensures .entry j (omega arith)))
-      (c .sum-k2 .ensures ∙ sumK-agree (m (P c)) (n (P c)) (λ j h. c .before .before .before .before .before .before .before .before .before .before .weights .ensures .entry j (omega arith)))
+      (c .before .before .sum-k .ensures ∙ sumK-agree (n (P c)) (m (P c))
+      (λ j h. c .before .before .before .before .before .before .before .before .before .right-weights .ensures .entry j (omega arith)))
+      (c .sum-k2 .ensures ∙ sumK-agree (m (P c)) (n (P c)) (λ j h.
+      c .before .before .before .before .before .before .before .before .before .before .weights .ensures .entry j (omega arith)))
 
   -- as the machine has them
   machine-k : toZ w64 (ofZ w64 (c .before .before .sum-k .result)) -ℤ toZ w64 (ofZ w64 (c .sum-k2 .result)) ≡ K (m (P c)) (n (P c)) (p (P c)) (q (P c))
-  machine-k = ap₂ (λ x y. x -ℤ y) (result-is (c .before .before .sum-k .result) (c .before .before .sum-k .ok)) (result-is (c .sum-k2 .result) (c .sum-k2 .ok)) ∙ k-is
+  machine-k =
+      ap₂ (λ x y. x -ℤ y) (result-is (c .before .before .sum-k .result) (c .before .before .sum-k .ok)) (result-is (c .sum-k2 .result) (c .sum-k2 .ok)) ∙ k-is
 
   k-fits : SFits w64 (K (m (P c)) (n (P c)) (p (P c)) (q (P c)))
   k-fits = within-fits w64 _ (lit< tt) (K-within (P c) (start c .pre .0))
 
-  machine-difference : toZ w64 (ofZ w64 (c .before .before .before .before .before .before .before .lower-half-sum .result)) -ℤ toZ w64 (ofZ w64 (c .before .before .before .before .lower-half-sum2 .result)) ≡
+  machine-difference : toZ w64 (ofZ w64 (c .before .before .before .before .before .before .before .lower-half-sum .result)) -ℤ toZ w64
+      (ofZ w64 (c .before .before .before .before .lower-half-sum2 .result)) ≡
       Y1 (P c) (at c) -ℤ Y2 (P c) (at c)
   machine-difference =
-      ap₂ (λ x y. x -ℤ y) (result-is (c .before .before .before .before .before .before .before .lower-half-sum .result) (c .before .before .before .before .before .before .before .lower-half-sum .ok) ∙ y1-is)
+      ap₂ (λ x y. x -ℤ y) (result-is (c .before .before .before .before .before .before .before .lower-half-sum .result)
+      (c .before .before .before .before .before .before .before .lower-half-sum .ok) ∙ y1-is)
       (result-is (c .before .before .before .before .lower-half-sum2 .result) (c .before .before .before .before .lower-half-sum2 .ok) ∙ y2-is)
 
   difference-fits : SFits w64 (Y1 (P c) (at c) -ℤ Y2 (P c) (at c))
@@ -168,8 +185,10 @@ module _ (c : tie.After-scaled-k) where
   sum-fits = within-fits w64 _ (lit< tt) sum-within
 
   machine-sum : let l = c .before .before .before .before .before in
-      toZ w64 (ofZ w64 (toZ w64 (ofZ w64 (l .before .before .before .lower-half-sum .result)) -ℤ toZ w64 (ofZ w64 (l .lower-half-sum2 .result)))) +ℤ toZ w64 (ofZ w64 (c .scaled-k .result)) ≡ slope c
-  machine-sum = ap₂ (λ x y. x +ℤ y) (ap (λ z. toZ w64 (ofZ w64 z)) (machine-difference (c .before)) ∙ toZ-ofZ (difference-fits (c .before))) (result-is (c .scaled-k .result) (c .scaled-k .ok) ∙ y3-is)
+      toZ w64 (ofZ w64 (toZ w64 (ofZ w64 (l .before .before .before .lower-half-sum .result)) -ℤ toZ w64 (ofZ w64 (l .lower-half-sum2 .result)))) +ℤ toZ
+      w64 (ofZ w64 (c .scaled-k .result)) ≡ slope c
+  machine-sum = ap₂ (λ x y. x +ℤ y) (ap (λ z. toZ w64 (ofZ w64 z)) (machine-difference (c .before)) ∙ toZ-ofZ (difference-fits (c .before)))
+      (result-is (c .scaled-k .result) (c .scaled-k .ok) ∙ y3-is)
 
 add-scaled : tie.Need-add-scaled
 add-scaled c = rw (machine-sum c) (sum-fits c)
@@ -178,8 +197,10 @@ of-requires-2 : tie.Need-of-requires-2
 of-requires-2 c κs = search needs
 
 scaled-requires : tie.Need-scaled-requires
-scaled-requires c κs =
-    (record { divides = c .of2 .ensures .1; proper = c .of2 .ensures .1 .atLeast }, rw (machine-sum (c .before), toZ-ofZ (sum-fits (c .before))) (sum-within (c .before)))
+scaled-requires c κs = (
+  record { divides = c .of2 .ensures .1; proper = c .of2 .ensures .1 .atLeast },
+  rw (machine-sum (c .before), toZ-ofZ (sum-fits (c .before))) (sum-within (c .before)),
+)
 
 -- the division by h is the scaling by 1/h
 divided : (y : ℤ) (d : ℕ) → scaled y 1 d ≡ rounded y d

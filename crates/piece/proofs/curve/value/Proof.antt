@@ -49,7 +49,8 @@ half-sum-requires c κs =
       omega arith,
       omega arith,
       record { divides = s .ensures .1; proper = omega (arith, s .ensures .0) },
-      more-weights (lit≤ tt) (listed-weights (c .before .before .weights .ensures) (λ j. sized-within (b .args .h) (b .args .left .now) j (b .pre .0 .leftSize))),
+      more-weights (lit≤ tt) (listed-weights (c .before .before .weights .ensures)
+          (λ j. sized-within (b .args .h) (b .args .left .now) j (b .pre .0 .leftSize))),
     )
 
 sub-complement : tie.Need-sub-complement
@@ -65,7 +66,8 @@ half-sum-requires-2 c κs =
       omega arith,
       omega arith,
       record { divides = s .ensures .1; proper = omega arith },
-      more-weights (lit≤ tt) (listed-weights (c .before .before .before .before .right-weights .ensures) (λ j. right-sized (b .args .h) (b .args .right .now) j (b .pre .0 .rightSize))),
+      more-weights (lit≤ tt) (listed-weights (c .before .before .before .before .right-weights .ensures)
+          (λ j. right-sized (b .args .h) (b .args .right .now) j (b .pre .0 .rightSize))),
     )
 
 -- where the function starts, the piece, the place r in it, and its divisor D
@@ -93,7 +95,8 @@ module _ (c : tie.After-half-sum2) where
   right-is =
       c .half-sum2 .ensures ∙
       ap (λ d. halfSum (n (P c)) (m (P c)) (d - at c) d (coefficient (c .before .before .before .before .before .right-weights .result))) (D-is c) ∙
-      halfSum-agree (n (P c)) (m (P c)) (D (P c) - at c) (D (P c)) (λ j h. c .before .before .before .before .before .right-weights .ensures .entry j (omega arith))
+      halfSum-agree (n (P c)) (m (P c)) (D (P c) - at c) (D (P c))
+      (λ j h. c .before .before .before .before .before .right-weights .ensures .entry j (omega arith))
 
   sum-is : c .before .before .before .half-sum .result +ℤ c .half-sum2 .result ≡ value (P c) (at c)
   unfolding value
@@ -104,11 +107,18 @@ module _ (c : tie.After-half-sum2) where
 
 add-result : tie.Need-add-result
 add-result c =
-    rw (result-is (c .before .before .before .half-sum .result) (c .before .before .before .half-sum .ok), result-is (c .half-sum2 .result) (c .half-sum2 .ok)) (sum-fits c)
+    rw (
+      result-is (c .before .before .before .half-sum .result) (c .before .before .before .half-sum .ok),
+      result-is (c .half-sum2 .result) (c .half-sum2 .ok),
+    ) (sum-fits c)
 
 returns : tie.Need-returns
 returns c =
-    rw (result-is (c .before .before .before .half-sum .result) (c .before .before .before .half-sum .ok), result-is (c .half-sum2 .result) (c .half-sum2 .ok), toZ-ofZ (sum-fits c)) (sum-is c)
+    rw (
+      result-is (c .before .before .before .half-sum .result) (c .before .before .before .half-sum .ok),
+      result-is (c .half-sum2 .result) (c .half-sum2 .ok),
+      toZ-ofZ (sum-fits c),
+    ) (sum-is c)
 
 pub value-spec : {M : Type 1} → statement M
 value-spec =

@@ -49,7 +49,8 @@ scaled-times-requires-2 : tie.Need-scaled-times-requires-2
 scaled-times-requires-2 c κs =
     let b = c .before .before in (
       record { divides = b .pre .0 .divides; proper = omega arith },
-      rw (first-is (c .before)) (times-within (b .args .m) _ (b .args .r) (b .args .divisor .d) (b .pre .0 .divides .atLeast) (b .pre .0 .proper) (unit-within b)),
+      rw (first-is (c .before)) (times-within (b .args .m) _ (b .args .r) (b .args .divisor .d) (b .pre .0 .divides .atLeast) (b .pre .0 .proper)
+          (unit-within b)),
     )
 
 returns : tie.Need-returns

@@ -70,7 +70,8 @@ product-is c =
 product-fits : (c : tie.After-weighted) → let b = c .before .before .before in SFits w64 (sumK (b .args .m) (b .args .n) (coefficient (b .args .w .now)))
 product-fits c =
     let b = c .before .before .before in
-    within-fits w64 _ (lit< tt) (sumK-within (b .args .m) (b .args .n) (coefficient (b .args .w .now)) (b .pre .0) (b .pre .1) (λ j h. b .pre .2 .small j (omega arith)))
+    within-fits w64 _ (lit< tt) (sumK-within (b .args .m) (b .args .n) (coefficient (b .args .w .now)) (b .pre .0) (b .pre .1)
+    (λ j h. b .pre .2 .small j (omega arith)))
 
 mul-result : tie.Need-mul-result
 mul-result c = rw (product-is c) (product-fits c)

@@ -25,7 +25,8 @@ number-requires-2 : tie.Need-number-requires-2
 number-requires-2 c κs = search needs
 
 total-requires : tie.Need-total-requires
-total-requires c κs = c .before .before .before .before .before .before .before .admitted .ensures (c .before .before .before .before .before .before .if1 .taken) .0
+total-requires c κs =
+    c .before .before .before .before .before .before .before .admitted .ensures (c .before .before .before .before .before .before .if1 .taken) .0
 
 slice-aggregate-number-3 : tie.Need-slice-aggregate-number-3
 slice-aggregate-number-3 c = search needs

@@ -38,10 +38,19 @@ returns c =
     let f2 = f3 .before .before .before .before in
     let f1 = f2 .before .before .before .before in
     let row = f1 .before .before .before .args .row in
-    let to = put-behind (decimal (row .to)) space (put-behind (decimal (row .from)) space (f1 .put-number .ensures .0) (f2 .put-number2 .ensures .0)) (f3 .put-number3 .ensures .0) in
-    let trend = put-behind (shown (replyOf (row .trend))) space (put-behind (shown (replyOf (row .value))) space to (a1 .put-answer .ensures .0)) (a2 .put-answer2 .ensures .0) in (
+    let to = put-behind (decimal (row .to)) space (put-behind (decimal (row .from)) space (f1 .put-number .ensures .0) (f2 .put-number2 .ensures .0))
+    (f3 .put-number3 .ensures .0) in
+    let trend = put-behind (shown (replyOf (row .trend))) space (put-behind (shown (replyOf (row .value))) space to (a1 .put-answer .ensures .0))
+    (a2 .put-answer2 .ensures .0) in (
       put-behind (shown (replyOf (row .total))) lineFeed trend (a3 .put-answer3 .ensures .0),
-      omega (arith, f1 .put-number .ensures .1, f2 .put-number2 .ensures .1, f3 .put-number3 .ensures .1, a1 .put-answer .ensures .1, a2 .put-answer2 .ensures .1),
+      omega (
+        arith,
+        f1 .put-number .ensures .1,
+        f2 .put-number2 .ensures .1,
+        f3 .put-number3 .ensures .1,
+        a1 .put-answer .ensures .1,
+        a2 .put-answer2 .ensures .1,
+      ),
     )
 
 pub put-row-spec : {M : Type 1} → statement M

@@ -74,7 +74,8 @@ same-length c = c .before .loop .inv .room
 returns : tie.Need-returns Inv-loop μ-loop
 returns c =
     let l = c .before in
-    let all : l .loop .k ≡ length (scans (l .before .before .before .args .reel)) - 1 = omega (arith, c .loop-test .left, l .loop .inv .pieces, l .before .count .ensures) in
+    let all : l .loop .k ≡ length (scans (l .before .before .before .args .reel)) - 1 =
+    omega (arith, c .loop-test .left, l .loop .inv .pieces, l .before .count .ensures) in
     (rw all at (l .loop .inv .put), omega (arith, few l, l .loop .inv .pieces, l .loop .inv .within))
 
 pub put-pieces-spec : {M : Type 1} → statement M

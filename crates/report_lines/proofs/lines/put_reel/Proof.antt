@@ -31,8 +31,10 @@ returns c =
     let t = l .before .before in
     let n = t .before .count in
     let p = t .before .before .before .before in
-    let reel = p .before .before .before .args .reel in
-    (put-put (p .put-pieces .ensures .0) (rw (reel-is (scans reel) _ (t .total .ensures .replies), n .ensures) at (l .put-reel-line .ensures .0)), omega (arith, p .put-pieces .ensures .1))
+    let reel = p .before .before .before .args .reel in (
+      put-put (p .put-pieces .ensures .0) (rw (reel-is (scans reel) _ (t .total .ensures .replies), n .ensures) at (l .put-reel-line .ensures .0)),
+      omega (arith, p .put-pieces .ensures .1),
+    )
 
 pub put-reel-spec : {M : Type 1} → statement M
 put-reel-spec =

@@ -29,7 +29,8 @@ returns c =
     let f = a .before .before .before .before in
     let b = f .before .before .before .before in
     let given = b .before .before .before .before .args in (
-      put-behind (shown (replyOf (given .total))) lineFeed (put-behind (decimal (given .pieces)) space (b .put-bytes .ensures) (f .put-number .ensures .0)) (a .put-answer .ensures .0),
+      put-behind (shown (replyOf (given .total))) lineFeed (put-behind (decimal (given .pieces)) space (b .put-bytes .ensures)
+          (f .put-number .ensures .0)) (a .put-answer .ensures .0),
       omega (arith, b .put-bytes .ensures .next, f .put-number .ensures .1),
     )
 

@@ -27,8 +27,10 @@ unfolding refusedLine
 returns c =
     let p = c .before .before in
     let n = p .before in
-    let b = n .before .before .before .before in
-    (rw (← n .number .ensures) (put-behind (decimal (n .number .result)) lineFeed (b .put-bytes .ensures) (p .put-number .ensures .0)), omega (arith, b .put-bytes .ensures .next, p .put-number .ensures .1))
+    let b = n .before .before .before .before in (
+      rw (← n .number .ensures) (put-behind (decimal (n .number .result)) lineFeed (b .put-bytes .ensures) (p .put-number .ensures .0)),
+      omega (arith, b .put-bytes .ensures .next, p .put-number .ensures .1),
+    )
 
 pub put-refused-spec : {M : Type 1} → statement M
 put-refused-spec =

@@ -28,8 +28,10 @@ returns : tie.Need-returns
 returns c =
     let f = c .before .before in
     let v = f .before .before .before in
-    let o = v .before .before in
-    (rw (reported-refusal _ (sym (o .open-block .ensures .verdict) ∙ ap refusal (v .verdict .given .1))) (f .put-refused .ensures .0), omega (arith, f .put-refused .ensures .1))
+    let o = v .before .before in (
+      rw (reported-refusal _ (sym (o .open-block .ensures .verdict) ∙ ap refusal (v .verdict .given .1))) (f .put-refused .ensures .0),
+      omega (arith, f .put-refused .ensures .1),
+    )
 
 enum-told : tie.Need-enum-told
 enum-told c = search needs

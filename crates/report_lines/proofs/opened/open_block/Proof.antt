@@ -26,7 +26,8 @@ returns-2 : tie.Need-returns-2
 returns-2 c =
     let n = c .before in
     let r = n .before .before in
-    opens-read _ (r .before .if1 .left) (r .read .ensures .0) (c .verdict-of .result) (c .verdict-of .ensures ∙ ap (refusalIn (replyOf (r .read .result .answer))) (n .count .ensures))
+    opens-read _ (r .before .if1 .left) (r .read .ensures .0) (c .verdict-of .result)
+    (c .verdict-of .ensures ∙ ap (refusalIn (replyOf (r .read .result .answer))) (n .count .ensures))
 
 pub open-block-spec : {M : Type 1} → statement M
 open-block-spec = tie.close (tie.spec empty-requires returns read-requires count-requires verdict-of-requires returns-2)

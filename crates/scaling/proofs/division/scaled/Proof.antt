@@ -40,7 +40,8 @@ part-requires c κs = search needs
 part-small : {x y d r : ℕ} → r ≡ x * y / d → y ≤ d → x ≤ 2 ^ 63 - 1 → r ≤ 2 ^ 63 - 1
 part-small {x} {y} {d} e h k = omega (arith, part-below x y d h)
 
-part-is : (c : tie.After-part) → let b = c .before .before .before in c .part .result ≡ natAbs (pos 0 -ℤ b .args .u) * (b .args .divisor .d - b .args .a) / b .args .divisor .d
+part-is : (c : tie.After-part) → let b = c .before .before .before in
+    c .part .result ≡ natAbs (pos 0 -ℤ b .args .u) * (b .args .divisor .d - b .args .a) / b .args .divisor .d
 part-is c = let b = c .before .before .before in rw (toZ-ofZ (b .fits .u), toZ-ofZ (opposite-fits (b .args .u) (b .pre .1))) at (c .part .ensures)
 
 below : (c : tie.After-part) → c .part .result ≤ 2 ^ 63 - 1
@@ -48,15 +49,18 @@ below c =
     let b = c .before .before .before in
     part-small (part-is c) (omega arith) (negative-magnitude (b .args .u) (rw (toZ-ofZ (b .fits .u)) at (c .before .before .if1 .taken)) (b .pre .1) .1)
 
-sum-is : (c : tie.After-part) → let b = c .before .before .before in b .args .u +ℤ pos (c .part .result) ≡ scaled (b .args .u) (b .args .a) (b .args .divisor .d)
+sum-is : (c : tie.After-part) → let b = c .before .before .before in
+    b .args .u +ℤ pos (c .part .result) ≡ scaled (b .args .u) (b .args .a) (b .args .divisor .d)
 sum-is c =
     let b = c .before .before .before in
-    rw (part-is c) (negative-scaled (b .args .u) (b .args .a) (b .args .divisor .d) (rw (toZ-ofZ (b .fits .u)) at (c .before .before .if1 .taken)) (b .pre .0 .proper) (b .pre .0 .divides .atLeast))
+    rw (part-is c) (negative-scaled (b .args .u) (b .args .a) (b .args .divisor .d) (rw (toZ-ofZ (b .fits .u)) at (c .before .before .if1 .taken))
+    (b .pre .0 .proper) (b .pre .0 .divides .atLeast))
 
 sum-fits : (c : tie.After-part) → let b = c .before .before .before in SFits w64 (b .args .u +ℤ pos (c .part .result))
 sum-fits c =
     let b = c .before .before .before in
-    rw (sum-is c) (within-fits w64 _ (lit< tt) (scaled-within (b .args .u) (b .args .a) (b .args .divisor .d) (b .pre .0 .divides .atLeast) (b .pre .0 .proper) (b .pre .1)))
+    rw (sum-is c) (within-fits w64 _ (lit< tt) (scaled-within (b .args .u) (b .args .a) (b .args .divisor .d) (b .pre .0 .divides .atLeast)
+    (b .pre .0 .proper) (b .pre .1)))
 
 cast-result : tie.Need-cast-result
 cast-result c = record { sfits = omega (arith, below c) }
@@ -90,7 +94,8 @@ returns c = rw (toZ-ofZ (c .before .before .before .fits .u), toZ-pos w64 {n = c
 returns-2 : tie.Need-returns-2
 returns-2 c =
     let b = c .before .before in
-    rw (toZ-pos w64 {n = c .part2 .result} (omega (arith, below-2 c)), part-is-2 c) (natural-scaled (b .args .u) (b .args .a) (b .args .divisor .d) (rw (toZ-ofZ (b .fits .u)) at (c .before .if1 .left)))
+    rw (toZ-pos w64 {n = c .part2 .result} (omega (arith, below-2 c)), part-is-2 c)
+    (natural-scaled (b .args .u) (b .args .a) (b .args .divisor .d) (rw (toZ-ofZ (b .fits .u)) at (c .before .if1 .left)))
 
 pub scaled-spec : {M : Type 1} → statement M
 scaled-spec =

@@ -24,8 +24,11 @@ loop-holds c = (omega arith, refl)
 
 scaled-requires : tie.Need-scaled-requires Inv-loop μ-loop
 scaled-requires c κs =
-    let b = c .before .before in
-    (b .pre .0, rw (c .before .loop .inv .1, toZ-ofZ (b .fits .u)) (times-within (c .before .loop .i) (b .args .u) (b .args .a) (b .args .divisor .d) (b .pre .0 .divides .atLeast) (b .pre .0 .proper) (b .pre .1)))
+    let b = c .before .before in (
+      b .pre .0,
+      rw (c .before .loop .inv .1, toZ-ofZ (b .fits .u))
+          (times-within (c .before .loop .i) (b .args .u) (b .args .a) (b .args .divisor .d) (b .pre .0 .divides .atLeast) (b .pre .0 .proper) (b .pre .1)),
+    )
 
 add-i : tie.Need-add-i Inv-loop μ-loop
 add-i c = omega arith
@@ -37,8 +40,11 @@ loop-again : tie.Need-loop-again Inv-loop μ-loop
 unfolding scaledTimes
 loop-again c =
     let b = c .before .before .before in
-    let l = c .before .before .loop in
-    (omega arith, rw (result-is (c .scaled .result) (c .scaled .ok), add-one) (c .scaled .ensures ∙ ap (λ z. scaled z (b .args .a) (b .args .divisor .d)) (l .inv .1)))
+    let l = c .before .before .loop in (
+      omega arith,
+      rw (result-is (c .scaled .result) (c .scaled .ok), add-one)
+          (c .scaled .ensures ∙ ap (λ z. scaled z (b .args .a) (b .args .divisor .d)) (l .inv .1)),
+    )
 
 returns : tie.Need-returns Inv-loop μ-loop
 returns c =

@@ -50,7 +50,11 @@ loop-less c = omega arith
 loop-again : tie.Need-loop-again Inv-loop μ-loop
 loop-again c =
     let l = c .before .before .before .before in
-    let h = rw (drop-cons (l .before .before .before .args .bytes .now) (l .loop .i) 0 (omega arith), ← c .before .hex-digit .ensures, ← c .hex-digit2 .ensures) at (l .loop .inv .3) in
+    let h = rw (
+      drop-cons (l .before .before .before .args .bytes .now) (l .loop .i) 0 (omega arith),
+      ← c .before .hex-digit .ensures,
+      ← c .hex-digit2 .ensures,
+    ) at (l .loop .inv .3) in
     let two : l .loop .to + 2 ≡ suc (suc (l .loop .to)) = omega arith in
     (omega arith, omega arith, rw (length-set, length-set) (l .loop .inv .2), rw (two, add-one (l .loop .to), add-one (l .loop .i)) h)
 

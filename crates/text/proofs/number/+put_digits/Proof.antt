@@ -51,8 +51,11 @@ module _ (t : ℕ) where
 
   put-digits-requires : put-digits-lts.Need-put-digits-requires (put-digits-below t, put-digits.Post) (put-digits-at t) put-digits.Post
   put-digits-requires c κs =
-      let b = c .before .before .before in
-      (omega (arith, b .pre .0, c .before .if1 .left), le-of-lt (more-room (b .args .n) (b .args .at) (length (b .args .out .now)) (c .before .if1 .left) (b .pre .1)))
+      let b = c .before .before .before in (
+        omega (arith, b .pre .0, c .before .if1 .left),
+        le-of-lt
+            (more-room (b .args .n) (b .args .at) (length (b .args .out .now)) (c .before .if1 .left) (b .pre .1)),
+      )
 
   cast-out-2 : put-digits-lts.Need-cast-out-2 (put-digits-below t, put-digits.Post) (put-digits-at t) put-digits.Post
   cast-out-2 c = omega arith
@@ -64,7 +67,13 @@ module _ (t : ℕ) where
   slice-write-out-2 c =
       let b = c .before .before .before .before .before .before in
       let r = c .before .before .put-digits in
-      omega (arith, r .ensures .next, r .kept .0, more-room (b .args .n) (b .args .at) (length (b .args .out .now)) (c .before .before .before .before .if1 .left) (b .pre .1))
+      omega (
+        arith,
+        r .ensures .next,
+        r .kept .0,
+        more-room (b .args .n) (b .args .at) (length (b .args .out .now))
+            (c .before .before .before .before .if1 .left) (b .pre .1),
+      )
 
   add-result-2 : put-digits-lts.Need-add-result-2 (put-digits-below t, put-digits.Post) (put-digits-at t) put-digits.Post
   add-result-2 c = omega (arith, slice-write-out-2 c)

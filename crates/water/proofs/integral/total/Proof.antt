@@ -43,14 +43,17 @@ module _ (c : tie.After-weighted2) where
       (λ j h. d .weights .ensures .entry j (omega arith)) (λ j h. b .right-weights .ensures .entry j (omega arith))
       (c .before .before .before .before .weighted .ensures) (c .weighted2 .ensures)
 
-  sum-is : toZ w64 (ofZ w64 (c .before .before .before .before .weighted .result)) +ℤ toZ w64 (ofZ w64 (c .weighted2 .result)) ≡ weightedSum (m (P c)) (n (P c)) (p (P c)) (q (P c))
+  sum-is : toZ w64 (ofZ w64 (c .before .before .before .before .weighted .result)) +ℤ toZ w64 (ofZ w64 (c .weighted2 .result)) ≡ weightedSum (m (P c))
+      (n (P c)) (p (P c)) (q (P c))
   unfolding weightedSum
-  sum-is = ap₂ (λ x y. x +ℤ y) (result-is (c .before .before .before .before .weighted .result) (c .before .before .before .before .weighted .ok) ∙ sides-are .0) (result-is (c .weighted2 .result) (c .weighted2 .ok) ∙ sides-are .1)
+  sum-is = ap₂ (λ x y. x +ℤ y) (result-is (c .before .before .before .before .weighted .result) (c .before .before .before .before .weighted .ok) ∙
+      sides-are .0) (result-is (c .weighted2 .result) (c .weighted2 .ok) ∙ sides-are .1)
 
   sum-fits : SFits w64 (weightedSum (m (P c)) (n (P c)) (p (P c)) (q (P c)))
   sum-fits = within-fits w64 _ (lit< tt) (weightedSum-within (P c) (start c .pre))
 
-  total-is : toZ w64 (start c .args .h) *ℤ toZ w64 (ofZ w64 (toZ w64 (ofZ w64 (c .before .before .before .before .weighted .result)) +ℤ toZ w64 (ofZ w64 (c .weighted2 .result)))) ≡ total (P c)
+  total-is : toZ w64 (start c .args .h) *ℤ toZ w64 (ofZ w64 (toZ w64 (ofZ w64 (c .before .before .before .before .weighted .result)) +ℤ toZ w64
+      (ofZ w64 (c .weighted2 .result)))) ≡ total (P c)
   unfolding total
   total-is = ap₂ (λ x y. x *ℤ y) (toZ-pos w64 {n = start c .args .h} (omega arith)) (ap (λ z. toZ w64 (ofZ w64 z)) sum-is ∙ toZ-ofZ sum-fits)
 

@@ -21,7 +21,8 @@ bits (pos n) f = refl
 bits (negsuc n) f = omega (arith, f .sfits)
 
 returns : tie.Need-returns
-returns c = rw (masked (ofZ w32 (c .args .c)) 30 (lit≤ tt), bits (c .args .c) (c .fits .c)) (put 30 (twosComplement (c .args .c)) 2 (twos-below (c .args .c)) (omega arith))
+returns c = rw (masked (ofZ w32 (c .args .c)) 30 (lit≤ tt), bits (c .args .c) (c .fits .c))
+    (put 30 (twosComplement (c .args .c)) 2 (twos-below (c .args .c)) (omega arith))
 
 pub coefficient-word-spec : {M : Type 1} → statement M
 coefficient-word-spec = tie.close (tie.spec cast-result returns)

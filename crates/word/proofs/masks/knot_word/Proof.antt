@@ -6,7 +6,8 @@ use Rattle.word.proofs.masks.knot_word.Statement.{statement}
 use Rattle.word.proofs.masks.knot_word.Tie as tie
 
 returns : tie.Need-returns
-returns c = rw (put 16 (c .args .position) (c .args .grade) (search needs) (search needs)) (put 30 (c .args .position + 2 ^ 16 * c .args .grade) 1 (search needs) (search needs))
+returns c = rw (put 16 (c .args .position) (c .args .grade) (search needs) (search needs))
+    (put 30 (c .args .position + 2 ^ 16 * c .args .grade) 1 (search needs) (search needs))
 
 pub knot-word-spec : {M : Type 1} → statement M
 knot-word-spec = tie.close (tie.spec returns)

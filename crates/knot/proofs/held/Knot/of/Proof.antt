@@ -42,10 +42,17 @@ loop-less c = omega arith
 
 -- one coefficient more
 taken : (c : tie.After-c Inv-loop μ-loop) → let l = c .before .before in
-    take (l .loop .j + 1) (set (l .loop .c) (l .loop .j) (toZ w32 (ofZ w32 (getD (l .before .args .list .now) (l .loop .j) (pos 0))))) ≡ take (l .loop .j + 1) (l .before .args .list .now)
+    take (l .loop .j + 1) (set (l .loop .c) (l .loop .j) (toZ w32 (ofZ w32 (getD (l .before .args .list .now) (l .loop .j) (pos 0))))) ≡ take
+    (l .loop .j + 1) (l .before .args .list .now)
 taken c =
     let l = c .before .before in
-    rw (toZ-ofZ (record { sfits = c .c .given }), add-one, take-suc-set (l .loop .c) (l .loop .j) _ (omega arith), l .loop .inv .2, take-suc (l .before .args .list .now) (l .loop .j) (pos 0) (omega arith)) refl
+    rw (
+      toZ-ofZ (record { sfits = c .c .given }),
+      add-one,
+      take-suc-set (l .loop .c) (l .loop .j) _ (omega arith),
+      l .loop .inv .2,
+      take-suc (l .before .args .list .now) (l .loop .j) (pos 0) (omega arith),
+    ) refl
 
 loop-again : tie.Need-loop-again Inv-loop μ-loop
 loop-again c =

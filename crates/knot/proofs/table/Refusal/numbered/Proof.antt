@@ -35,7 +35,8 @@ returns-9 c = search needs
 returns-10 : tie.Need-returns-10
 returns-10 c =
     let r = c .match .rest in
-    let above : 5 ≤ c .before .args .n = omega (arith, c .before .pre .0, r .0 .0 .0 .0 .0 .0 .0 .0 .1, r .0 .0 .0 .0 .0 .0 .0 .1, r .0 .0 .0 .0 .0 .0 .1, r .0 .0 .0 .0 .0 .1) in
+    let above : 5 ≤ c .before .args .n =
+    omega (arith, c .before .pre .0, r .0 .0 .0 .0 .0 .0 .0 .0 .1, r .0 .0 .0 .0 .0 .0 .0 .1, r .0 .0 .0 .0 .0 .0 .1, r .0 .0 .0 .0 .0 .1) in
     omega (arith, above, c .before .pre .1, r .0 .0 .0 .0 .1, r .0 .0 .0 .1, r .0 .0 .1, r .0 .1, r .1)
 
 pub numbered-spec : {M : Type 1} → statement M

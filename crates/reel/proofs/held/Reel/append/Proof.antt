@@ -30,15 +30,18 @@ element-copy-out-held : tie.Need-element-copy-out-held
 element-copy-out-held c = search needs
 
 append-cause-requires : tie.Need-append-cause-requires
-append-cause-requires c κs = let b = c .before .before in before-graded (b .args .t1) (b .pre) (b .args .t1 .count) _ (c .before .before2 .ensures) (omega arith)
+append-cause-requires c κs =
+    let b = c .before .before in before-graded (b .args .t1) (b .pre) (b .args .t1 .count) _ (c .before .before2 .ensures) (omega arith)
 
 abbrev start : tie.After-append-cause → tie.Start
 start t = t .before .before .before
 
 -- the causes, with the last knot, are the call's
 finds : (t : tie.After-append-cause) → let b = start t in
-    Finds (t .append-cause .result) (causes (append (b .args .position) (b .args .coefficients .now)) (scans (b .args .t1))) (scanOf (b .args .position) (b .args .coefficients .now))
-finds t = let b = start t in append-finds (b .args .t1) (b .pre) _ (b .args .position) (b .args .coefficients .now) _ (t .before .before .before2 .ensures) (t .append-cause .ensures)
+    Finds (t .append-cause .result) (causes (append (b .args .position) (b .args .coefficients .now)) (scans (b .args .t1)))
+    (scanOf (b .args .position) (b .args .coefficients .now))
+finds t = let b = start t in append-finds (b .args .t1) (b .pre) _ (b .args .position) (b .args .coefficients .now) _
+    (t .before .before .before2 .ensures) (t .append-cause .ensures)
 
 enum-known-verdict : tie.Need-enum-known-verdict
 enum-known-verdict c = search needs
@@ -51,7 +54,8 @@ returns c =
     let v = c .before .before in
     let t = v .before .before in
     let b = start t in
-    refuses _ (b .args .t1) (v .verdict .given .0 .0) (c .refused .result) (b .pre) (c .refused .ensures) (sym (finds t .verdict) ∙ ap refusal (v .verdict .given .1))
+    refuses _ (b .args .t1) (v .verdict .given .0 .0) (c .refused .result) (b .pre) (c .refused .ensures)
+    (sym (finds t .verdict) ∙ ap refusal (v .verdict .given .1))
 
 enum-told : tie.Need-enum-told
 enum-told c = search needs
@@ -82,7 +86,8 @@ returns-2 c =
     accepts _ r _ (b .pre) (passed e) refl refl refl
     (scans-appended r (b .pre) (t .append-cause .result .knot) (room e) ∙ ap (λ s. scans r ++ s ∷ []) (new .is))
     (length-set (r .knots) (r .count) _ ∙ b .pre .filled .room) (omega (arith, room e))
-    (graded-stored (r .knots) (r .count) (r .count + 1) (t .append-cause .result .knot) (omega (arith, room e, b .pre .filled .room)) (new .graded) (λ j h d. b .pre .filled .graded j (omega arith)))
+    (graded-stored (r .knots) (r .count) (r .count + 1) (t .append-cause .result .knot) (omega (arith, room e, b .pre .filled .room)) (new .graded)
+    (λ j h d. b .pre .filled .graded j (omega arith)))
 
 pub append-spec : {M : Type 1} → statement M
 append-spec =

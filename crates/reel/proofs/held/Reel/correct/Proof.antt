@@ -69,11 +69,13 @@ correct-cause-requires c κs h =
 
 -- the causes, with the knots beside knot k, are the call's
 finds : (t : tie.After-correct-cause) → let b = start (t .before) in
-    Finds (t .correct-cause .result) (causes (correct (b .args .k) (b .args .coefficients .now)) (scans (b .args .t1))) (corrected (scans (b .args .t1)) (b .args .k) (b .args .coefficients .now))
+    Finds (t .correct-cause .result) (causes (correct (b .args .k) (b .args .coefficients .now)) (scans (b .args .t1)))
+    (corrected (scans (b .args .t1)) (b .args .k) (b .args .coefficients .now))
 finds t =
     let f = t .before in
     let b = start f in
-    correct-finds (b .args .t1) (b .pre) (b .args .k) _ _ _ (b .args .coefficients .now) _ (f .before .before .before .before .before .inside .ensures) (f .before .before .before .before2 .ensures) (f .before .inside2 .ensures) (t .correct-cause .ensures)
+    correct-finds (b .args .t1) (b .pre) (b .args .k) _ _ _ (b .args .coefficients .now) _ (f .before .before .before .before .before .inside .ensures)
+    (f .before .before .before .before2 .ensures) (f .before .inside2 .ensures) (t .correct-cause .ensures)
 
 enum-known-verdict : tie.Need-enum-known-verdict
 enum-known-verdict c = search needs
@@ -86,7 +88,8 @@ returns c =
     let v = c .before .before in
     let t = v .before .before in
     let b = start (t .before) in
-    refuses _ (b .args .t1) (v .verdict .given .0 .0) (c .refused .result) (b .pre) (c .refused .ensures) (sym (finds t .verdict) ∙ ap refusal (v .verdict .given .1))
+    refuses _ (b .args .t1) (v .verdict .given .0 .0) (c .refused .result) (b .pre) (c .refused .ensures)
+    (sym (finds t .verdict) ∙ ap refusal (v .verdict .given .1))
 
 enum-told : tie.Need-enum-told
 enum-told c = search needs
@@ -116,7 +119,8 @@ returns-2 c =
     (accepts _ r _ (b .pre) (passed e) refl refl refl
     (scans-corrected r (b .pre) k (t .correct-cause .result .knot) (there e) ∙ ap (λ s. set (scans r) k s) (new .is))
     (length-set (r .knots) k _ ∙ b .pre .filled .room) (b .pre .filled .count)
-    (graded-stored (r .knots) k (r .count) (t .correct-cause .result .knot) (omega (arith, there e, b .pre .filled .room, b .pre .filled .count)) (new .graded) (λ j h d. b .pre .filled .graded j h)))
+    (graded-stored (r .knots) k (r .count) (t .correct-cause .result .knot) (omega (arith, there e, b .pre .filled .room, b .pre .filled .count))
+    (new .graded) (λ j h d. b .pre .filled .graded j h)))
 
 pub correct-spec : {M : Type 1} → statement M
 correct-spec =

@@ -30,13 +30,17 @@ cast-t12 : tie.Need-cast-t12
 cast-t12 c = search needs
 
 at-most : (b : tie.Start) → b .args .k < b .args .t1 .count → knotAt (b .args .t1) (b .args .k) .position ≤ positionMax
-at-most b h = rw (at-scans (b .args .t1) (b .pre) (b .args .k) h) at (b .pre .standing .position (b .args .k) (omega (arith, length-scans (b .args .t1) (b .pre))))
+at-most b h =
+    rw (at-scans (b .args .t1) (b .pre) (b .args .k) h) at (b .pre .standing .position (b .args .k) (omega (arith, length-scans (b .args .t1) (b .pre))))
 
 returns-2 : tie.Need-returns-2
 unfolding positionOf
 returns-2 c =
     let b = c .before .before .before in
-    rw (lt-leb (length (scans (b .args .t1))) (b .args .k) (omega (arith, length-scans (b .args .t1) (b .pre))), at-scans (b .args .t1) (b .pre) (b .args .k) (omega arith))
+    rw (
+      lt-leb (length (scans (b .args .t1))) (b .args .k) (omega (arith, length-scans (b .args .t1) (b .pre))),
+      at-scans (b .args .t1) (b .pre) (b .args .k) (omega arith),
+    )
     (ap number (toZ-pos w64 {n = knotAt (b .args .t1) (b .args .k) .position} (omega (arith, at-most b (omega arith)))))
 
 pub position-spec : {M : Type 1} → statement M

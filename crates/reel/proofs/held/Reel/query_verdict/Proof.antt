@@ -21,7 +21,8 @@ query-cause-requires : tie.Need-query-cause-requires
 query-cause-requires c κs = search needs
 
 returns : tie.Need-returns
-returns c = let b = c .before .before .before .before in c .query-cause .ensures ∙ query-causes (b .args .t1) (b .pre) _ (b .args .x) (c .before .before .before .before2 .ensures)
+returns c = let b = c .before .before .before .before in c .query-cause .ensures ∙
+    query-causes (b .args .t1) (b .pre) _ (b .args .x) (c .before .before .before .before2 .ensures)
 
 pub query-verdict-spec : {M : Type 1} → statement M
 query-verdict-spec = tie.close (tie.spec before-requires element-copy-out-first mul-last element-copy-out-last query-cause-requires returns)

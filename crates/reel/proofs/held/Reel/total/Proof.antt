@@ -25,7 +25,8 @@ abbrev start : tie.After-range-cause → tie.Start
 start t = t .before
 
 -- the causes are the call's
-verdict-is : (t : tie.After-range-cause) → let b = start t in refusal (t .range-cause .result) ≡ first (causes (Calls·total (b .args .i) (b .args .j)) (scans (b .args .self)))
+verdict-is : (t : tie.After-range-cause) → let b = start t in
+    refusal (t .range-cause .result) ≡ first (causes (Calls·total (b .args .i) (b .args .j)) (scans (b .args .self)))
 verdict-is t = let b = start t in t .range-cause .ensures ∙ range-causes (b .args .self) (b .pre) (b .args .i) (b .args .j)
 
 enum-known-cause : tie.Need-enum-known-cause
@@ -59,7 +60,8 @@ returns-2 c =
     let b = start (c .before .before .before .before) in
     let r = b .args .self in
     answers (Calls·total (b .args .i) (b .args .j)) r _ (totalOver (scans r) (b .args .i) (b .args .j)) [] (b .pre) (passed (c .before .before)) refl
-    (result-is (c .total .result) (c .total .ok) ∙ c .total .ensures ∙ ap (λ s. totalOver s (b .args .i) (b .args .j)) (sym (scans-of (r .knots) (r .count)))) refl refl
+    (result-is (c .total .result) (c .total .ok) ∙ c .total .ensures ∙
+    ap (λ s. totalOver s (b .args .i) (b .args .j)) (sym (scans-of (r .knots) (r .count)))) refl refl
 
 pub total-spec : {M : Type 1} → statement M
 total-spec = tie.close (tie.spec range-cause-requires enum-known-cause refused-requires returns enum-told total-requires returns-2)

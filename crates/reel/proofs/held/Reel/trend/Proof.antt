@@ -29,7 +29,8 @@ returns c =
     let v = c .before .before in
     let q = v .before .before in
     let b = q .before in
-    refuses _ (b .args .self) (v .cause .given .0 .0) (c .refused .result) (b .pre) (c .refused .ensures) (sym (q .query-verdict .ensures) ∙ ap refusal (v .cause .given .1))
+    refuses _ (b .args .self) (v .cause .given .0 .0) (c .refused .result) (b .pre) (c .refused .ensures)
+    (sym (q .query-verdict .ensures) ∙ ap refusal (v .cause .given .1))
 
 enum-told : tie.Need-enum-told
 enum-told c = search needs

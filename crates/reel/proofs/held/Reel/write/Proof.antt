@@ -31,8 +31,10 @@ returns c =
     let b = e .before .before .before .before in
     let r = b .args .self in
     let size = length (block (scans r)) in
-    let short : length (b .args .out .now) < size = omega (arith, e .if1 .taken, e .before .length .ensures, ap (λ s. length (block s)) (sym (scans-of (r .knots) (r .count)))) in
-    refuses (write (b .args .out .now)) r Refusals.Output (c .refused .result) (b .pre) (c .refused .ensures) (rw (lt-ltb (length (b .args .out .now)) size short) refl)
+    let short : length (b .args .out .now) < size =
+    omega (arith, e .if1 .taken, e .before .length .ensures, ap (λ s. length (block s)) (sym (scans-of (r .knots) (r .count)))) in
+    refuses (write (b .args .out .now)) r Refusals.Output (c .refused .result) (b .pre) (c .refused .ensures)
+    (rw (lt-ltb (length (b .args .out .now)) size short) refl)
 
 write-requires : tie.Need-write-requires
 write-requires c κs = search needs
@@ -52,7 +54,8 @@ returns-2 c =
     let are = sym (scans-of (r .knots) (r .count)) in
     let size : n .result ≡ length (block (scans r)) = n .ensures .0 ∙ ap (λ s. length (block s)) are in
     let most : length (block (scans r)) ≤ blockMax = block-length (scans r) (b .pre .standing) in
-    let room : length (block (scans r)) ≤ length (b .args .out .now) = omega (arith, e .if1 .left, e .before .length .ensures, ap (λ s. length (block s)) are) in
+    let room : length (block (scans r)) ≤ length (b .args .out .now) =
+    omega (arith, e .if1 .left, e .before .length .ensures, ap (λ s. length (block s)) are) in
     answers (write (b .args .out .now)) r (toZ w64 (n .result)) (pos (length (block (scans r)))) _ (b .pre)
     (rw (le-ltb (length (b .args .out .now)) (length (block (scans r))) room) refl) refl
     (toZ-pos w64 {n = n .result} (omega (arith, most, size)) ∙ ap pos size) refl (n .ensures .1 ∙ ap (λ s. written s (b .args .out .now)) are)
