@@ -4,5 +4,6 @@ pub mod Taylor
 pub mod Water
 pub mod Length
 pub mod Slope
+pub mod SumK
 pub mod At
 pub mod HalfSum

@@ -8,3 +8,4 @@ pub mod Magnitude
 pub mod Tests
 pub mod Claim
 pub mod Stores
+pub mod Product

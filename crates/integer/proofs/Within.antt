@@ -1,5 +1,5 @@
 -- Bounds of sums, products and negations, and that a number bounded below half of a width's power fits in that width.
-use mathlib.Core.Path.{_≡_, sym, _∙_, ap₂}
+use mathlib.Core.Path.{_≡_, sym, _∙_, ap, ap₂}
 use Prim.Native.Nat.{ℕ, zero, suc, _+_, _*_, _^_, _≤_, _<_, min}
 use native.Mathlib.Nat.{mul-le-mul, mul-le-mul-right}
 use native.Mathlib.Omega.{arith}
@@ -56,7 +56,11 @@ pub fits-within : (w : Width) (z : ℤ) → SFits w z → Within (2 ^ hbits w) z
 fits-within w (pos n) f = record { hi = omega (arith, f .sfits); lo = omega arith }
 fits-within w (negsuc n) f = record { hi = omega arith; lo = f .sfits }
 
--- the result of a call, as it is held in 64 bits
+-- what is computed, as it is held in 64 bits
+pub computed-is : {z y : ℤ} → z ≡ y → SFits w64 y → toZ w64 (ofZ w64 z) ≡ y
+computed-is e f = ap (λ z. toZ w64 (ofZ w64 z)) e ∙ toZ-ofZ f
+
+-- and the result of a call
 pub result-is : (z : ℤ) → mag z < 2 ^ 63 → toZ w64 (ofZ w64 z) ≡ z
 result-is z h = toZ-ofZ (record { sfits = h })
 

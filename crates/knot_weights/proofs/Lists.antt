@@ -5,29 +5,26 @@ use Prim.Native.Nat.{ℕ, _+_, _*_, _≤_, _<_}
 use native.Mathlib.Decide.{decLt, ℕ-discrete}
 use native.Mathlib.Omega.{arith}
 use lib.IntN.{ℤ, pos, *ℤ-zero}
-use lib.ListN.{length, set, length-set, getD-replicate, replicate, List·getD-eq-default}
+use lib.ListN.{length, set, length-set, getD-replicate, List·getD-eq-default}
 use lib.Seq.{getD-set-same, getD-set-other}
 use Rattle.integer.specs.Within.{Within}
 use Rattle.integer.proofs.Within.{within-natural, within-more}
 use Rattle.hermite.specs.Polynomial.{coefficient}
 use Rattle.hermite.specs.Slope.{primed}
 use Rattle.rounding.proofs.Bounds.{primed-within}
-use Rattle.knot_weights.specs.Machine.{Lists, Weights}
+use Rattle.knot_weights.specs.Machine.{Lists, Weights, zeros}
 
--- w holds f below k, and from k on still what it held, v
-pub record Filled (w : List ℤ) (f v : ℕ → ℤ) (k : ℕ) : Type 0 where
+-- w holds f below k, and from k on still 0
+pub record Filled (w : List ℤ) (f : ℕ → ℤ) (k : ℕ) : Type 0 where
   pub count : 8 ≡ length w
   pub done : (j : ℕ) → j < k → coefficient w j ≡ f j
-  pub left : (j : ℕ) → k ≤ j → j ≤ 7 → coefficient w j ≡ v j
+  pub left : (j : ℕ) → k ≤ j → j ≤ 7 → coefficient w j ≡ pos 0
 
-pub filled-none : (w : List ℤ) (f : ℕ → ℤ) → 8 ≡ length w → Filled w f (coefficient w) 0
-filled-none w f e = record { count = e; done = λ j h. absurd (omega arith); left = λ j h b. refl }
-
-pub filled-zeros : (f : ℕ → ℤ) → Filled (replicate 8 (pos 0)) f (λ j. pos 0) 0
+pub filled-zeros : (f : ℕ → ℤ) → Filled zeros f 0
 filled-zeros f = record { count = refl; done = λ j h. absurd (omega arith); left = λ j h b. getD-replicate 8 j (pos 0) (pos 0) (omega arith) }
 
-pub filled-more : {w : List ℤ} {f v : ℕ → ℤ} {k : ℕ} (x : ℤ) → Filled w f v k → k ≤ 7 → x ≡ f k → Filled (set w k x) f v (k + 1)
-filled-more {w} {f} {v} {k} x filled h e = record {
+pub filled-more : {w : List ℤ} {f : ℕ → ℤ} {k : ℕ} (x : ℤ) → Filled w f k → k ≤ 7 → x ≡ f k → Filled (set w k x) f (k + 1)
+filled-more {w} {f} {k} x filled h e = record {
   count = filled .count ∙ sym (length-set w k x);
   done = λ j b. go j b (ℕ-discrete j k);
   left = λ j b c. getD-set-other w k j x (pos 0) (omega arith) ∙ filled .left j (omega arith) c;
@@ -37,8 +34,8 @@ filled-more {w} {f} {v} {k} x filled h e = record {
     go j b (yes z) = rw z (getD-set-same w k x (pos 0) (omega (arith, filled .count)) ∙ e)
     go j b (no z) = getD-set-other w k j x (pos 0) z ∙ filled .done j (omega arith)
 
-pub filled-lists : {w : List ℤ} {f v : ℕ → ℤ} {k : ℕ} → Filled w f v k → ((j : ℕ) → k ≤ j → j ≤ 7 → v j ≡ f j) → Lists w f
-filled-lists {w} {f} {v} {k} filled rest = record { count = filled .count; entry = λ j h. go j h (decLt j k) }
+pub filled-lists : {w : List ℤ} {f : ℕ → ℤ} {k : ℕ} → Filled w f k → ((j : ℕ) → k ≤ j → j ≤ 7 → pos 0 ≡ f j) → Lists w f
+filled-lists {w} {f} {k} filled rest = record { count = filled .count; entry = λ j h. go j h (decLt j k) }
   where
     go : (j : ℕ) → j ≤ 7 → Dec (j < k) → coefficient w j ≡ f j
     go j h (yes b) = filled .done j b

@@ -1,54 +1,43 @@
 // The weights of a knot for a piece of h steps, in order of j; 0 above the grade.
-ghost use mathlib.Core.Bool.{true};
 ghost use mathlib.Core.Path.{_≡_};
 ghost use Prim.Native.Nat.{_+_, _≤_};
 ghost use lib.ListN.{length};
 ghost use Rattle.hermite.specs.Blend.{rightWeights};
 ghost use Rattle.hermite.specs.Polynomial.{coefficient};
 ghost use Rattle.hermite.specs.Slope.{primed as Slope·primed};
-ghost use Rattle.knot_weights.specs.Machine.{Lists, Weights};
+ghost use Rattle.integer.specs.Within.{Within};
+ghost use Rattle.knot_weights.specs.Machine.{Lists, Weights, byPowers, zeros};
 ghost use Rattle.rounding.specs.Piece.{weight};
 ghost use Rattle.rounding.specs.Limits.{gapMax, gradeMax, sizeMax};
-ghost use Rattle.rounding.specs.Size.{sized};
 
-// C_j × h^j: p_j of a left knot, q_j of a right one.
-pub fn weights(h: u64, c: &[i32]) -> [i64; 8]
-    requires { ⌜ (h ≤ gapMax) × (length (now c) ≤ gradeMax + 1) ⌝ }
-    ensures { λ w. ⌜ Lists w (weight h (now (c .entry))) ⌝ }
+// C_j times the powers of a base, h or −h, in one pass. The array is lent: one that is handed back would be copied.
+fn by_powers(base: i64, c: &[i32], w: &mut [i64; 8])
+    requires { ⌜ (Within gapMax base) × (length (now c) ≤ gradeMax + 1) × (now w ≡ zeros) ⌝ }
+    ensures { λ _. ⌜ Lists (now (w .exit)) (byPowers base (now (c .entry))) ⌝ }
 {
-    let mut w = [0i64; 8];
     let mut power = 1;
     let mut j = 0;
     while j < c.len() {
-        w[j] = c[j] as i64 * power as i64;
-        power *= h;
+        w[j] = c[j] as i64 * power;
+        power *= base;
         j += 1;
     }
-    w
 }
 
-// Every second weight turned: (−1)^j × q_j.
-fn alternated(q: [i64; 8]) -> [i64; 8]
-    requires { ⌜ Weights sizeMax q ⌝ }
-    ensures { λ w. ⌜ Lists w (rightWeights (coefficient q)) ⌝ }
+// Left weights, of a left knot: p_j = C_j × h^j.
+pub fn weights(h: u64, c: &[i32], w: &mut [i64; 8])
+    requires { ⌜ (h ≤ gapMax) × (length (now c) ≤ gradeMax + 1) × (now w ≡ zeros) ⌝ }
+    ensures { λ _. ⌜ Lists (now (w .exit)) (weight h (now (c .entry))) ⌝ }
 {
-    let mut w = q;
-    let mut sign = 1;
-    let mut j = 0;
-    while j < 8 {
-        w[j] = sign * w[j];
-        sign = -sign;
-        j += 1;
-    }
-    w
+    by_powers(h as i64, c, w)
 }
 
-// Right weights, of a right knot.
-pub fn right_weights(h: u64, c: &[i32]) -> [i64; 8]
-    requires { ⌜ (h ≤ gapMax) × (length (now c) ≤ gradeMax + 1) × (sized h (now c) ≡ true) ⌝ }
-    ensures { λ w. ⌜ Lists w (rightWeights (weight h (now (c .entry)))) ⌝ }
+// Right weights, of a right knot: (−1)^j × q_j = C_j × (−h)^j.
+pub fn right_weights(h: u64, c: &[i32], w: &mut [i64; 8])
+    requires { ⌜ (h ≤ gapMax) × (length (now c) ≤ gradeMax + 1) × (now w ≡ zeros) ⌝ }
+    ensures { λ _. ⌜ Lists (now (w .exit)) (rightWeights (weight h (now (c .entry)))) ⌝ }
 {
-    alternated(weights(h, c))
+    by_powers(-1 * h as i64, c, w)
 }
 
 // w'_j = (j+1) × w_(j+1).

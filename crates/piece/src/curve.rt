@@ -8,12 +8,14 @@ ghost use Rattle.rounding.specs.Trend.{trend as Trend·trend};
 ghost use Rattle.rounding.specs.Value.{value as Value·value};
 use super::slope::scaled_k;
 use super::slope::sum_k;
+use half_sum::binomials;
 use half_sum::half_sum;
 use half_sum::lower_half_sum;
 use knot_weights::right_weights;
 use knot_weights::weights;
 use rounding::POSITION_UNIT;
 use scaling::Divisor;
+use scaling::Fraction;
 use scaling::scaled;
 
 // The value: a half-sum from each end.
@@ -23,28 +25,39 @@ pub fn value(h: u64, left: &[i32], right: &[i32], r: u64) -> i64
 {
     let m = left.len() - 1;
     let n = right.len() - 1;
-    let divisor = Divisor::of(POSITION_UNIT * h);
-    let p = weights(h, left);
-    let w = right_weights(h, right);
-    let from_left = half_sum(m, n, r, divisor, &p);
-    let complement = divisor.d - r;
-    let from_right = half_sum(n, m, complement, divisor, &w);
+    let rows = binomials();
+    let table: &[u32] = &rows;
+    let divisor = Divisor::of(h);
+    let s = Fraction::of(r, divisor);
+    let complement = Fraction::of(divisor.d - r, divisor);
+    let mut p = [0i64; 8];
+    weights(h, left, &mut p);
+    let mut w = [0i64; 8];
+    right_weights(h, right, &mut w);
+    let from_left = half_sum(m, n, s, complement, table, &p);
+    let from_right = half_sum(n, m, complement, s, table, &w);
     from_left + from_right
 }
 
-// The trend: Y1 − Y2 + Y3, divided by h.
+// The trend: Y1 − Y2 + Y3, divided by h, which is scaled by 256/D.
 pub fn trend(h: u64, left: &[i32], right: &[i32], r: u64) -> i64
     requires { ⌜ (Admitted (piece h (now left) (now right))) × (r ≤ positionUnit * h) ⌝ }
     ensures { λ z. ⌜ z ≡ Trend·trend (piece h (now (left .entry)) (now (right .entry))) r ⌝ }
 {
     let m = left.len() - 1;
     let n = right.len() - 1;
-    let divisor = Divisor::of(POSITION_UNIT * h);
-    let p = weights(h, left);
-    let w = right_weights(h, right);
-    let y1 = lower_half_sum(m, n, r, divisor, &p);
-    let complement = divisor.d - r;
-    let y2 = lower_half_sum(n, m, complement, divisor, &w);
-    let k = sum_k(n, m, &w) - sum_k(m, n, &p);
-    scaled(y1 - y2 + scaled_k(m, n, r, divisor, k), 1, Divisor::of(h))
+    let rows = binomials();
+    let table: &[u32] = &rows;
+    let divisor = Divisor::of(h);
+    let s = Fraction::of(r, divisor);
+    let complement = Fraction::of(divisor.d - r, divisor);
+    let mut p = [0i64; 8];
+    weights(h, left, &mut p);
+    let mut w = [0i64; 8];
+    right_weights(h, right, &mut w);
+    let y1 = lower_half_sum(m, n, s, complement, table, &p);
+    let y2 = lower_half_sum(n, m, complement, s, table, &w);
+    let k = sum_k(n, m, table, &w) - sum_k(m, n, table, &p);
+    let y3 = scaled_k(m, n, s, complement, k);
+    scaled(y1 - y2 + y3, Fraction::of(POSITION_UNIT, divisor))
 }

@@ -4,23 +4,22 @@ ghost use Prim.Native.Nat.{_*_, _≤_};
 ghost use Rattle.integer.specs.Within.{Within};
 ghost use Rattle.hermite.specs.Polynomial.{coefficient};
 ghost use Rattle.hermite.specs.Slope.{sumK};
-ghost use Rattle.scaling.specs.Machine.{Fraction};
+ghost use Rattle.half_sum.specs.Machine.{Binomials};
+ghost use Rattle.scaling.specs.Machine.{Complements};
 ghost use Rattle.knot_weights.specs.Machine.{Weights};
 ghost use Rattle.rounding.specs.Limits.{gradeMax, sizeMax};
 ghost use Rattle.rounding.specs.Trend.{scaledK};
-use half_sum::BINOMIALS;
 use half_sum::VALUE_UNIT;
 use half_sum::weighted;
-use scaling::Divisor;
+use scaling::Fraction;
 use scaling::scaled_times;
 
 // One of the two sums of K. What multiplies w_j there, (m+n−j+1) × binomial(m+n−j, m−j), is
 // (n+1) × binomial(n+1+m−j, m−j): n+1 times an entry of the table.
-pub fn sum_k(m: usize, n: usize, w: &[i64]) -> i64
-    requires { ⌜ (m ≤ gradeMax) × (n ≤ gradeMax) × (Weights sizeMax (now w)) ⌝ }
+pub fn sum_k(m: usize, n: usize, table: &[u32], w: &[i64]) -> i64
+    requires { ⌜ (m ≤ gradeMax) × (n ≤ gradeMax) × (Binomials (now table)) × (Weights sizeMax (now w)) ⌝ }
     ensures { λ r. ⌜ r ≡ sumK m n (coefficient (now (w .entry))) ⌝ }
 {
-    let table: &[u32] = &BINOMIALS;
     let next = n + 1;
     let from = 8 * next + 7 - m;
     next as i64 * weighted(m, &table[from..], w)
@@ -28,11 +27,10 @@ pub fn sum_k(m: usize, n: usize, w: &[i64]) -> i64
 
 // Y3: 65,536 × K, scaled by r/d m times, then by (d−r)/d n times. Each sum of K is at most 91,520 times the
 // greatest weight.
-pub fn scaled_k(m: usize, n: usize, r: u64, divisor: Divisor, k: i64) -> i64
-    requires { ⌜ (Fraction r divisor) × (Within (2 * (91520 * sizeMax)) k) ⌝ }
-    ensures { λ y. ⌜ y ≡ scaledK m n r (divisor .d) k ⌝ }
+pub fn scaled_k(m: usize, n: usize, s: Fraction, complement: Fraction, k: i64) -> i64
+    requires { ⌜ (Complements s complement) × (Within (2 * (91520 * sizeMax)) k) ⌝ }
+    ensures { λ y. ⌜ y ≡ scaledK m n (s .a) (s .d) k ⌝ }
 {
-    let u = scaled_times(m, VALUE_UNIT * k, r, divisor);
-    let complement = divisor.d - r;
-    scaled_times(n, u, complement, divisor)
+    let u = scaled_times(m, VALUE_UNIT * k, s);
+    scaled_times(n, u, complement)
 }

@@ -1,5 +1,6 @@
 pub mod Agree
 pub mod Bounds
+pub mod Scaling
 pub mod Fits
 pub mod Distance
 pub mod Taylor

@@ -1,17 +1,27 @@
--- A divisor in machine integers: document 01's D of a scaling, and h where a trend is divided by it.
+-- A fraction in machine integers, prepared for scaling: document 01's a/D.
 use mathlib.Core.Path.{_≡_}
 use Prim.Native.Nat.{ℕ, _+_, _*_, _/_, _^_, _≤_, _<_}
 use Rattle.rounding.specs.Limits.{gapMax}
 use Rattle.rounding.specs.Piece.{positionUnit}
-use Rattle.scaling.specs.declared.division.Divisor.{Divisor}
+use Rattle.scaling.specs.declared.fraction.Fraction.{Fraction}
 
--- what a divisor holds: d from 1 to 4,096, the greatest D there can be, and its reciprocal in parts of 2^36
-pub record Divides (s : Divisor) : Type 0 where
-  pub atLeast : 0 < s .d
-  pub atMost : s .d ≤ positionUnit * gapMax
-  pub reciprocal : s .reciprocal ≡ 2 ^ 36 / s .d + 1
+-- what a divisor holds: d, at most 4,096, the greatest D there can be, and its reciprocal in parts of 2^64
+pub record Divides (d reciprocal : ℕ) : Type 0 where
+  pub atLeast : 0 < d
+  pub atMost : d ≤ positionUnit * gapMax
+  pub inParts : reciprocal ≡ 2 ^ 64 / d + 1
 
--- a fraction a/d from 0 to 1
-pub record Fraction (a : ℕ) (s : Divisor) : Type 0 where
-  pub divides : Divides s
-  pub proper : a ≤ s .d
+-- what a prepared fraction holds: a/d from 0 to 1, the quotient and the rest of a × 2^32 by d, and the bias
+pub record Prepared (s : Fraction) : Type 0 where
+  pub divides : Divides (s .d) (s .reciprocal)
+  pub proper : s .a ≤ s .d
+  pub quotient : s .whole * s .d + s .rest ≡ s .a * 2 ^ 32
+  pub below : s .rest < s .d
+  pub biased : s .bias ≡ s .d * 2 ^ 32
+
+-- two prepared fractions of one divisor, a/d and (d−a)/d
+pub record Complements (s t : Fraction) : Type 0 where
+  pub prepared : Prepared s
+  pub other : Prepared t
+  pub divisor : t .d ≡ s .d
+  pub together : s .a + t .a ≡ s .d

@@ -1,6 +1,7 @@
 // Scaling in machine integers, rounded down.
-mod division;
+mod fraction;
 
-pub use division::Divisor;
-pub use division::scaled;
-pub use division::scaled_times;
+pub use fraction::Divisor;
+pub use fraction::Fraction;
+pub use fraction::scaled;
+pub use fraction::scaled_times;

@@ -15,8 +15,10 @@ pub fn total(h: u64, left: &[i32], right: &[i32]) -> i64
 {
     let m = left.len() - 1;
     let n = right.len() - 1;
-    let p = weights(h, left);
-    let w = right_weights(h, right);
+    let mut p = [0i64; 8];
+    weights(h, left, &mut p);
+    let mut w = [0i64; 8];
+    right_weights(h, right, &mut w);
     let table = integral_weights();
     let row = 64 * m + 8 * n;
     let exchanged = 64 * n + 8 * m;

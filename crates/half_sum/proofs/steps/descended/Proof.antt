@@ -13,15 +13,15 @@ use Rattle.hermite.specs.Polynomial.{coefficient}
 use Rattle.rounding.specs.HalfSum.{descended}
 use Rattle.rounding.specs.Scaling.{scaled}
 use Rattle.rounding.proofs.Bounds.{descended-fits}
-use Rattle.integer.proofs.Within.{within-natural, within-mul, within-fits, result-is}
+use Rattle.integer.proofs.Within.{within-natural, within-mul, within-fits, computed-is, result-is}
 use Rattle.half_sum.proofs.steps.descended.Statement.{statement}
 use Rattle.half_sum.proofs.steps.descended.Tie as tie
 
 abbrev Inv-loop : tie.InvT-loop
-Inv-loop m a s g i₀ u₀ i u = (i ≤ m) × (toZ w64 u ≡ descended (coefficient g) a (s .d) (m - i) i)
+Inv-loop m s g i₀ u₀ i u = (i ≤ m) × (toZ w64 u ≡ descended (coefficient g) (s .a) (s .d) (m - i) i)
 
 abbrev μ-loop : tie.MeasureT-loop
-μ-loop m a s g i₀ u₀ i u = i
+μ-loop m s g i₀ u₀ i u = i
 
 module _ (b : tie.Start Inv-loop μ-loop) where
   unit-is : (j : ℕ) → j ≤ 7 → pos valueUnit *ℤ toZ w64 (ofZ w64 (coefficient (b .args .g .now) j)) ≡ pos valueUnit *ℤ coefficient (b .args .g .now) j
@@ -30,12 +30,54 @@ module _ (b : tie.Start Inv-loop μ-loop) where
   unit-fits : (j : ℕ) → j ≤ 7 → SFits w64 (pos valueUnit *ℤ coefficient (b .args .g .now) j)
   unit-fits j h = within-fits w64 _ (lit< tt) (within-mul (pos valueUnit) (coefficient (b .args .g .now) j) (within-natural valueUnit) (b .pre .2 .small j h))
 
-  u-within : (k i : ℕ) → i + k ≤ 7 → Within (2 ^ 63 - 1) (descended (coefficient (b .args .g .now)) (b .args .a) (b .args .divisor .d) k i)
-  u-within k i h = descended-fits (coefficient (b .args .g .now)) (b .args .a) (b .args .divisor .d) k i (b .pre .1 .divides .atLeast)
+  u-within : (k i : ℕ) → i + k ≤ 7 → Within (2 ^ 63 - 1) (descended (coefficient (b .args .g .now)) (b .args .s .a) (b .args .s .d) k i)
+  u-within k i h = descended-fits (coefficient (b .args .g .now)) (b .args .s .a) (b .args .s .d) k i (b .pre .1 .divides .atLeast)
       (b .pre .1 .proper) h (b .pre .2 .small)
 
-  u-fits : (k i : ℕ) → i + k ≤ 7 → SFits w64 (descended (coefficient (b .args .g .now)) (b .args .a) (b .args .divisor .d) k i)
+  u-fits : (k i : ℕ) → i + k ≤ 7 → SFits w64 (descended (coefficient (b .args .g .now)) (b .args .s .a) (b .args .s .d) k i)
   u-fits k i h = within-fits w64 _ (lit< tt) (u-within k i h)
+
+loop-holds : tie.Need-loop-holds Inv-loop μ-loop
+unfolding descended
+loop-holds c =
+    let b = c .before in
+    let none : b .args .m - b .args .m ≡ 0 = omega arith in
+    (omega arith, rw none (computed-is (unit-is b (b .args .m) (b .pre .0)) (unit-fits b (b .args .m) (b .pre .0))))
+
+-- one round more
+round : (c : tie.After-u2 Inv-loop μ-loop) → let l = c .before .before .before in let b = l .before .before in
+    toZ w64 (ofZ w64 (c .before .scaled .result)) +ℤ toZ w64 (ofZ w64 (pos valueUnit *ℤ toZ w64 (ofZ w64 (coefficient (b .args .g .now) (l .loop .i - 1))))) ≡
+    descended (coefficient (b .args .g .now)) (b .args .s .a) (b .args .s .d) (b .args .m - (l .loop .i - 1)) (l .loop .i - 1)
+unfolding descended
+round c =
+    let l = c .before .before .before in
+    let b = l .before .before in
+    let next : b .args .m - (l .loop .i - 1) ≡ suc (b .args .m - l .loop .i) = omega arith in
+    let back : suc (l .loop .i - 1) ≡ l .loop .i = omega arith in
+    rw (
+      next,
+      back,
+      unit-is b (l .loop .i - 1) (omega arith),
+      toZ-ofZ (unit-fits b (l .loop .i - 1) (omega arith)),
+      result-is (c .before .scaled .result) (c .before .scaled .ok),
+    )
+    (ap (λ z. z +ℤ pos valueUnit *ℤ coefficient (b .args .g .now) (l .loop .i - 1))
+    (c .before .scaled .ensures ∙ ap (λ z. scaled z (b .args .s .a) (b .args .s .d)) (l .loop .inv .1)))
+
+loop-again : tie.Need-loop-again Inv-loop μ-loop
+loop-again c =
+    let l = c .before .before .before in
+    let b = l .before .before in
+    (omega arith, rw (round c) (toZ-ofZ (u-fits b (b .args .m - (l .loop .i - 1)) (l .loop .i - 1) (omega arith))))
+
+returns : tie.Need-returns Inv-loop μ-loop
+returns c =
+    let b = c .before .before .before in
+    let none : c .before .loop .i ≡ 0 = omega arith in
+    let all : b .args .m - 0 ≡ b .args .m = omega arith in
+    rw (none, all) at (c .before .loop .inv .1)
+
+-- ---- the needs
 
 mul-u : tie.Need-mul-u Inv-loop μ-loop
 mul-u c = omega arith
@@ -45,13 +87,6 @@ shared-slice-copy-out-u c = omega (arith, c .pre .2 .count)
 
 mul-u-2 : tie.Need-mul-u-2 Inv-loop μ-loop
 mul-u-2 c = rw (unit-is (c .before) (c .before .args .m) (c .before .pre .0)) (unit-fits (c .before) (c .before .args .m) (c .before .pre .0))
-
-loop-holds : tie.Need-loop-holds Inv-loop μ-loop
-unfolding descended
-loop-holds c =
-    let b = c .before in
-    let none : b .args .m - b .args .m ≡ 0 = omega arith in
-    (omega arith, rw none (ap (λ z. toZ w64 (ofZ w64 z)) (unit-is b (b .args .m) (b .pre .0)) ∙ toZ-ofZ (unit-fits b (b .args .m) (b .pre .0))))
 
 sub-i : tie.Need-sub-i Inv-loop μ-loop
 sub-i c = omega arith
@@ -73,26 +108,6 @@ mul-u-4 c =
     let b = l .before .before in
     rw (unit-is b (l .loop .i - 1) (omega arith)) (unit-fits b (l .loop .i - 1) (omega arith))
 
--- one round more
-round : (c : tie.After-u2 Inv-loop μ-loop) → let l = c .before .before .before in let b = l .before .before in
-    toZ w64 (ofZ w64 (c .before .scaled .result)) +ℤ toZ w64 (ofZ w64 (pos valueUnit *ℤ toZ w64 (ofZ w64 (coefficient (b .args .g .now) (l .loop .i - 1))))) ≡
-    descended (coefficient (b .args .g .now)) (b .args .a) (b .args .divisor .d) (b .args .m - (l .loop .i - 1)) (l .loop .i - 1)
-unfolding descended
-round c =
-    let l = c .before .before .before in
-    let b = l .before .before in
-    let next : b .args .m - (l .loop .i - 1) ≡ suc (b .args .m - l .loop .i) = omega arith in
-    let back : suc (l .loop .i - 1) ≡ l .loop .i = omega arith in
-    rw (
-      next,
-      back,
-      unit-is b (l .loop .i - 1) (omega arith),
-      toZ-ofZ (unit-fits b (l .loop .i - 1) (omega arith)),
-      result-is (c .before .scaled .result) (c .before .scaled .ok),
-    )
-    (ap (λ z. z +ℤ pos valueUnit *ℤ coefficient (b .args .g .now) (l .loop .i - 1))
-    (c .before .scaled .ensures ∙ ap (λ z. scaled z (b .args .a) (b .args .divisor .d)) (l .loop .inv .1)))
-
 add-u : tie.Need-add-u Inv-loop μ-loop
 add-u c =
     let l = c .before .before .before in
@@ -101,19 +116,6 @@ add-u c =
 
 loop-less : tie.Need-loop-less Inv-loop μ-loop
 loop-less c = omega arith
-
-loop-again : tie.Need-loop-again Inv-loop μ-loop
-loop-again c =
-    let l = c .before .before .before in
-    let b = l .before .before in
-    (omega arith, rw (round c) (toZ-ofZ (u-fits b (b .args .m - (l .loop .i - 1)) (l .loop .i - 1) (omega arith))))
-
-returns : tie.Need-returns Inv-loop μ-loop
-returns c =
-    let b = c .before .before .before in
-    let none : c .before .loop .i ≡ 0 = omega arith in
-    let all : b .args .m - 0 ≡ b .args .m = omega arith in
-    rw (none, all) at (c .before .loop .inv .1)
 
 pub descended-spec : {M : Type 1} → statement M
 descended-spec =

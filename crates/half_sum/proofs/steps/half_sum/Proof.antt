@@ -12,8 +12,34 @@ use Rattle.rounding.specs.Limits.{sizeMax}
 use Rattle.rounding.proofs.Agree.{descended-agree}
 use Rattle.rounding.proofs.Bounds.{g-within, descended-fits}
 use Rattle.integer.proofs.Within.{result-is}
+use Rattle.scaling.proofs.Complements.{by-complement}
 use Rattle.half_sum.proofs.steps.half_sum.Statement.{statement}
 use Rattle.half_sum.proofs.steps.half_sum.Tie as tie
+
+-- u of step 2
+module _ (c : tie.After-descended) where
+  u-is : let b = c .before .before .before .before in
+      c .descended .result ≡ descended (g (b .args .n) (coefficient (b .args .w .now))) (b .args .s .a) (b .args .s .d) (b .args .m) 0
+  u-is =
+      let b = c .before .before .before .before in
+      c .descended .ensures ∙ descended-agree (b .args .s .a) (b .args .s .d) (b .args .m) 0 (λ j h. c .before .before .sums .ensures .entry j (omega arith))
+
+  u-within : Within (2 ^ 63 - 1) (c .descended .result)
+  u-within =
+      let b = c .before .before .before .before in
+      rw u-is
+      (descended-fits _ (b .args .s .a) (b .args .s .d) (b .args .m) 0 (b .pre .2 .prepared .divides .atLeast) (b .pre .2 .prepared .proper) (omega arith)
+      (λ j h. g-within (7 * sizeMax) (b .args .n) j (coefficient (b .args .w .now)) (b .pre .1) h (λ i k. b .pre .4 .small i (omega arith))))
+
+returns : tie.Need-returns
+unfolding halfSum
+returns c =
+    let b = c .before .before .before .before .before in
+    result-is (c .scaled-times .result) (c .scaled-times .ok) ∙ c .scaled-times .ensures ∙ by-complement (b .pre .2) (b .args .n + 1) _ ∙
+    ap (λ z. scaledTimes (b .args .n + 1) z (b .args .s .d - b .args .s .a) (b .args .s .d))
+    (result-is (c .before .descended .result) (c .before .descended .ok) ∙ u-is (c .before))
+
+-- ---- the needs
 
 sums-requires : tie.Need-sums-requires
 sums-requires c κs = search needs
@@ -23,51 +49,22 @@ slice-aggregate-descended c = search needs
 
 descended-requires : tie.Need-descended-requires
 descended-requires c κs =
-    let b = c .before .before in (
+    let b = c .before .before .before in (
       b .pre .0,
-      b .pre .2,
+      b .pre .2 .prepared,
       record {
         count = c .before .sums .ensures .count;
         small = λ j h. rw (c .before .sums .ensures .entry j h)
-            (g-within (7 * sizeMax) (b .args .n) j (coefficient (b .args .w .now)) (b .pre .1) h (λ i k. b .pre .3 .small i (omega arith)));
+            (g-within (7 * sizeMax) (b .args .n) j (coefficient (b .args .w .now)) (b .pre .1) h (λ i k. b .pre .4 .small i (omega arith)));
       },
     )
-
--- u of step 2
-module _ (c : tie.After-descended) where
-  u-is : let b = c .before .before .before in
-      c .descended .result ≡ descended (g (b .args .n) (coefficient (b .args .w .now))) (b .args .a) (b .args .divisor .d) (b .args .m) 0
-  u-is =
-      let b = c .before .before .before in
-      c .descended .ensures ∙ descended-agree (b .args .a) (b .args .divisor .d) (b .args .m) 0 (λ j h. c .before .before .sums .ensures .entry j (omega arith))
-
-  u-within : Within (2 ^ 63 - 1) (c .descended .result)
-  u-within =
-      let b = c .before .before .before in
-      rw u-is
-      (descended-fits _ (b .args .a) (b .args .divisor .d) (b .args .m) 0 (b .pre .2 .divides .atLeast) (b .pre .2 .proper) (omega arith)
-      (λ j h. g-within (7 * sizeMax) (b .args .n) j (coefficient (b .args .w .now)) (b .pre .1) h (λ i k. b .pre .3 .small i (omega arith))))
-
-sub-complement : tie.Need-sub-complement
-sub-complement c = search needs
 
 add-scaled-times : tie.Need-add-scaled-times
 add-scaled-times c = search needs
 
 scaled-times-requires : tie.Need-scaled-times-requires
 scaled-times-requires c κs =
-    let b = c .before .before .before .before in (
-      record { divides = b .pre .2 .divides; proper = omega arith },
-      rw (result-is (c .before .descended .result) (c .before .descended .ok)) (u-within (c .before)),
-    )
-
-returns : tie.Need-returns
-unfolding halfSum
-returns c =
-    let b = c .before .before .before .before .before in
-    result-is (c .scaled-times .result) (c .scaled-times .ok) ∙ c .scaled-times .ensures ∙
-    ap (λ z. scaledTimes (b .args .n + 1) z (b .args .divisor .d - b .args .a) (b .args .divisor .d))
-    (result-is (c .before .before .descended .result) (c .before .before .descended .ok) ∙ u-is (c .before .before))
+    (c .before .before .before .before .pre .2 .other, rw (result-is (c .descended .result) (c .descended .ok)) (u-within c))
 
 pub half-sum-spec : {M : Type 1} → statement M
 half-sum-spec =
@@ -76,7 +73,6 @@ half-sum-spec =
     sums-requires
     slice-aggregate-descended
     descended-requires
-    sub-complement
     add-scaled-times
     scaled-times-requires
     returns)

@@ -28,8 +28,8 @@ slice-aggregate-half-sum c = search needs
 
 half-sum-requires : tie.Need-half-sum-requires
 half-sum-requires c κs =
-    let b = c .before .before .before in
-    (omega arith, b .pre .1, b .pre .2, primed-weights (b .pre .3) (c .before .primed .ensures))
+    let b = c .before .before .before .before in
+    (omega arith, b .pre .1, b .pre .2, b .pre .3, primed-weights (b .pre .4) (c .before .primed .ensures))
 
 lower-is : (m k n a d : ℕ) (w : ℕ → ℤ) → m ≡ suc k → halfSum k n a d (primed w) ≡ lowerHalfSum m n a d w
 unfolding lowerHalfSum
@@ -37,13 +37,13 @@ lower-is m k n a d w e = rw e refl
 
 returns-2 : tie.Need-returns-2
 returns-2 c =
-    let b = c .before .before .before .before in
-    let half : c .half-sum .result ≡ halfSum (b .args .m - 1) (b .args .n) (b .args .a) (b .args .divisor .d)
+    let b = c .before .before .before .before .before in
+    let half : c .half-sum .result ≡ halfSum (b .args .m - 1) (b .args .n) (b .args .s .a) (b .args .s .d)
     (coefficient (c .before .before .primed .result)) =
     c .half-sum .ensures in
     result-is (c .half-sum .result) (c .half-sum .ok) ∙ half ∙
-    halfSum-agree (b .args .m - 1) (b .args .n) (b .args .a) (b .args .divisor .d) (λ j h. c .before .before .primed .ensures .entry j (omega arith)) ∙
-    lower-is (b .args .m) (b .args .m - 1) (b .args .n) (b .args .a) (b .args .divisor .d) (coefficient (b .args .w .now)) (omega arith)
+    halfSum-agree (b .args .m - 1) (b .args .n) (b .args .s .a) (b .args .s .d) (λ j h. c .before .before .primed .ensures .entry j (omega arith)) ∙
+    lower-is (b .args .m) (b .args .m - 1) (b .args .n) (b .args .s .a) (b .args .s .d) (coefficient (b .args .w .now)) (omega arith)
 
 pub lower-half-sum-spec : {M : Type 1} → statement M
 lower-half-sum-spec =

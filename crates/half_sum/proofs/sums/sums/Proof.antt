@@ -1,30 +1,38 @@
 -- `half_sum::sums::sums` meets its contract. After i turns the array holds g_0 to g_(i−1).
-use mathlib.Core.Path.{refl, _∙_}
-use Prim.Native.Nat.{_+_, _-_, _*_, _≤_}
+use mathlib.Core.Path.{_∙_}
+use Prim.Native.Nat.{_-_, _≤_}
 use native.Mathlib.Omega.{arith}
-use lib.IntN.{pos}
-use lib.ListN.{length-take, length-drop}
 use Rattle.hermite.specs.HalfSum.{g as HalfSum·g}
-use Rattle.hermite.specs.Binomial.{binomial}
 use Rattle.hermite.specs.Polynomial.{coefficient}
 use Rattle.knot_weights.proofs.Lists.{Filled, filled-zeros, filled-more, filled-lists}
-use Rattle.half_sum.proofs.Rows.{g-by-rows}
-use Rattle.half_sum.proofs.Tables.{all-entries, part-entries}
+use Rattle.half_sum.proofs.Rows.{row-long, row-small, g-by-rows}
 use Rattle.integer.proofs.Within.{result-is}
 use Rattle.half_sum.proofs.sums.sums.Statement.{statement}
 use Rattle.half_sum.proofs.sums.sums.Tie as tie
 
 abbrev Inv-loop : tie.InvT-loop
-Inv-loop n w table g₀ i₀ g i = (i ≤ 8) × (Filled g (HalfSum·g n (coefficient w)) (λ j. pos 0) i)
+Inv-loop n table w g₀ i₀ g i = (i ≤ 8) × (Filled g (HalfSum·g n (coefficient w)) i)
 
 abbrev μ-loop : tie.MeasureT-loop
-μ-loop n w table g₀ i₀ g i = 8 - i
-
-slice-aggregate-table : tie.Need-slice-aggregate-table Inv-loop μ-loop
-slice-aggregate-table c = refl
+μ-loop n table w g₀ i₀ g i = 8 - i
 
 loop-holds : tie.Need-loop-holds Inv-loop μ-loop
 loop-holds c = (omega arith, filled-zeros _)
+
+loop-again : tie.Need-loop-again Inv-loop μ-loop
+loop-again c =
+    let l = c .before .before .before in
+    let b = l .before .before in (
+      omega arith,
+      filled-more _ (l .loop .inv .1) (omega arith)
+          (result-is (c .weighted .result) (c .weighted .ok) ∙ c .weighted .ensures ∙
+          g-by-rows (b .args .table .now) (b .pre .1) (b .args .n) (l .loop .i) (omega arith) (omega arith) (b .args .w .now)),
+    )
+
+returns : tie.Need-returns Inv-loop μ-loop
+returns c = filled-lists (c .before .loop .inv .1) (λ j h b. absurd (omega arith))
+
+-- ---- the needs
 
 mul-from : tie.Need-mul-from Inv-loop μ-loop
 mul-from c = omega arith
@@ -39,19 +47,23 @@ mul-weighted : tie.Need-mul-weighted Inv-loop μ-loop
 mul-weighted c = omega arith
 
 sub-weighted : tie.Need-sub-weighted Inv-loop μ-loop
-sub-weighted c = omega arith
+sub-weighted c = omega (arith, c .before .before .before .pre .1 .count)
 
 part-weighted-start : tie.Need-part-weighted-start Inv-loop μ-loop
-part-weighted-start c = omega arith
+part-weighted-start c = omega (arith, c .before .before .before .pre .1 .count)
 
 part-weighted-end : tie.Need-part-weighted-end Inv-loop μ-loop
-part-weighted-end c = omega arith
+part-weighted-end c = omega (arith, c .before .before .before .pre .1 .count)
 
 weighted-requires : tie.Need-weighted-requires Inv-loop μ-loop
 weighted-requires c κs =
     let l = c .before .before in
-    let from = 8 * l .before .before .args .n + 7 - l .loop .i in
-    (omega arith, simp (length-take, length-drop) (omega arith), part-entries _ (72 - from) from (all-entries _ refl), l .before .before .pre .1)
+    let b = l .before .before in (
+      omega arith,
+      row-long (b .args .table .now) (b .pre .1) (b .args .n) (l .loop .i) (omega arith) (omega arith),
+      row-small (b .args .table .now) (b .pre .1) (b .args .n) (l .loop .i),
+      b .pre .2,
+    )
 
 mul-g : tie.Need-mul-g Inv-loop μ-loop
 mul-g c = omega arith
@@ -65,26 +77,12 @@ add-i c = omega arith
 loop-less : tie.Need-loop-less Inv-loop μ-loop
 loop-less c = omega arith
 
-loop-again : tie.Need-loop-again Inv-loop μ-loop
-unfolding binomial
-loop-again c =
-    let l = c .before .before .before in (
-      omega arith,
-      filled-more _ (l .loop .inv .1) (omega arith)
-          (result-is (c .weighted .result) (c .weighted .ok) ∙ c .weighted .ensures ∙
-          g-by-rows _ refl refl (l .before .before .args .n) (l .loop .i) (omega arith) (omega arith) (l .before .before .args .w .now)),
-    )
-
-returns : tie.Need-returns Inv-loop μ-loop
-returns c = filled-lists (c .before .loop .inv .1) (λ j h b. absurd (omega arith))
-
 pub sums-spec : {M : Type 1} → statement M
 sums-spec =
     tie.close
     (tie.spec
     Inv-loop
     μ-loop
-    slice-aggregate-table
     loop-holds
     mul-from
     add-from

@@ -1,11 +1,12 @@
 -- `half_sum::sums::weighted` meets its contract. After j turns sum is the sum to j.
-use mathlib.Core.Path.{_≡_, _∙_, ap}
+use mathlib.Core.Path.{_≡_}
 use Prim.Native.Nat.{_+_, _-_, _≤_}
 use native.Mathlib.Omega.{arith}
 use mir.Syntax.{w64}
-use mir.Val.{toZ, ofZ}
+use mir.Val.{toZ}
 use mir.Facts.{toZ-ofZ}
 use Rattle.integer.specs.Sum.{sum as Sum·sum}
+use Rattle.integer.proofs.Within.{computed-is}
 use Rattle.half_sum.proofs.Terms.{term, entry-fits, machine-term, term-fits, sum-fits, machine-sum}
 use Rattle.half_sum.proofs.sums.weighted.Statement.{statement}
 use Rattle.half_sum.proofs.sums.weighted.Tie as tie
@@ -34,8 +35,8 @@ unfolding Sum·sum
 loop-holds c =
     let b = c .before .before in (
       omega arith,
-      ap (λ z. toZ w64 (ofZ w64 z)) (machine-term (b .args .c .now) (b .args .w .now) (b .pre .2) (b .pre .3) 0 (omega arith)) ∙
-          toZ-ofZ (term-fits (b .args .c .now) (b .args .w .now) (b .pre .2) (b .pre .3) 0 (omega arith)),
+      computed-is (machine-term (b .args .c .now) (b .args .w .now) (b .pre .2) (b .pre .3) 0 (omega arith))
+          (term-fits (b .args .c .now) (b .args .w .now) (b .pre .2) (b .pre .3) 0 (omega arith)),
     )
 
 add-j : tie.Need-add-j Inv-loop μ-loop

@@ -10,7 +10,7 @@ use mir.Val.{SFits, toZ, ofZ}
 use mir.Facts.{toZ-ofZ, toZ-pos}
 use Rattle.hermite.specs.Slope.{primed as Slope·primed}
 use Rattle.integer.specs.Within.{Within}
-use Rattle.integer.proofs.Within.{within-fits}
+use Rattle.integer.proofs.Within.{within-fits, computed-is}
 use Rattle.hermite.specs.Polynomial.{coefficient}
 use Rattle.rounding.specs.Limits.{sizeMax}
 use Rattle.rounding.proofs.Bounds.{primed-within}
@@ -19,25 +19,13 @@ use Rattle.knot_weights.proofs.powers.primed.Statement.{statement}
 use Rattle.knot_weights.proofs.powers.primed.Tie as tie
 
 abbrev Inv-loop : tie.InvT-loop
-Inv-loop w v₀ j₀ v j = (j ≤ 7) × (Filled v (Slope·primed (coefficient w)) (λ j. pos 0) j)
+Inv-loop w v₀ j₀ v j = (j ≤ 7) × (Filled v (Slope·primed (coefficient w)) j)
 
 abbrev μ-loop : tie.MeasureT-loop
 μ-loop w v₀ j₀ v j = 7 - j
 
 loop-holds : tie.Need-loop-holds Inv-loop μ-loop
 loop-holds c = (omega arith, filled-zeros _)
-
-add-next : tie.Need-add-next Inv-loop μ-loop
-add-next c = omega arith
-
-cast-v : tie.Need-cast-v Inv-loop μ-loop
-cast-v c = record { sfits = omega arith }
-
-mul-v : tie.Need-mul-v Inv-loop μ-loop
-mul-v c = omega arith
-
-shared-slice-copy-out-v : tie.Need-shared-slice-copy-out-v Inv-loop μ-loop
-shared-slice-copy-out-v c = omega (arith, c .before .before .pre .count)
 
 module _ (c : tie.After-v Inv-loop μ-loop) where
   held-small : let l = c .before .before in Within sizeMax (coefficient (l .before .args .w .now) (l .loop .j + 1))
@@ -56,6 +44,31 @@ module _ (c : tie.After-v Inv-loop μ-loop) where
   weight-fits =
       let l = c .before .before in within-fits w64 _ (lit< tt) (primed-within (coefficient (l .before .args .w .now)) (l .loop .j) (omega arith) held-small)
 
+loop-again : tie.Need-loop-again Inv-loop μ-loop
+loop-again c =
+    let l = c .before .before in
+    (omega arith, filled-more _ (l .loop .inv .1) (omega arith) (computed-is (product-is c) (weight-fits c)))
+
+returns : tie.Need-returns Inv-loop μ-loop
+unfolding Slope·primed
+returns c = filled-lists (c .before .loop .inv .1) (λ j h b. sym
+    (ap (λ x. pos (j + 1) *ℤ x) (List·getD-eq-default (c .before .before .args .w .now) (pos 0) (omega (arith, c .before .before .pre .count))) ∙
+    *ℤ-zero (pos (j + 1))))
+
+-- ---- the needs
+
+add-next : tie.Need-add-next Inv-loop μ-loop
+add-next c = omega arith
+
+cast-v : tie.Need-cast-v Inv-loop μ-loop
+cast-v c = record { sfits = omega arith }
+
+mul-v : tie.Need-mul-v Inv-loop μ-loop
+mul-v c = omega arith
+
+shared-slice-copy-out-v : tie.Need-shared-slice-copy-out-v Inv-loop μ-loop
+shared-slice-copy-out-v c = omega (arith, c .before .before .pre .count)
+
 mul-v-2 : tie.Need-mul-v-2 Inv-loop μ-loop
 mul-v-2 c = rw (product-is c) (weight-fits c)
 
@@ -67,17 +80,6 @@ array-set-from-v c = omega arith
 
 loop-less : tie.Need-loop-less Inv-loop μ-loop
 loop-less c = omega arith
-
-loop-again : tie.Need-loop-again Inv-loop μ-loop
-loop-again c =
-    let l = c .before .before in
-    (omega arith, filled-more _ (l .loop .inv .1) (omega arith) (ap (λ z. toZ w64 (ofZ w64 z)) (product-is c) ∙ toZ-ofZ (weight-fits c)))
-
-returns : tie.Need-returns Inv-loop μ-loop
-unfolding Slope·primed
-returns c = filled-lists (c .before .loop .inv .1) (λ j h b. sym
-    (ap (λ x. pos (j + 1) *ℤ x) (List·getD-eq-default (c .before .before .args .w .now) (pos 0) (omega (arith, c .before .before .pre .count))) ∙
-    *ℤ-zero (pos (j + 1))))
 
 pub primed-spec : {M : Type 1} → statement M
 primed-spec =

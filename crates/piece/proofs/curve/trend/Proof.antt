@@ -1,27 +1,175 @@
 -- `piece::curve::trend` meets its contract: the arrays stand for the piece's weights, and Y1 − Y2 + Y3 fits.
 use borrow.Author.Needs.{needs}
 use mathlib.Core.Path.{_≡_, _∙_, ap, ap₂}
-use Prim.Native.Nat.{ℕ, _-_, _^_}
+use mathlib.Core.List.{List}
+use Prim.Native.Nat.{ℕ, _-_, _^_, _≤_}
+use native.Mathlib.Nat.{le-trans}
 use native.Mathlib.Omega.{arith}
 use lib.Dec.{lit<}
-use lib.IntN.{ℤ, one, _+ℤ_, _-ℤ_, *ℤ-one}
+use lib.IntN.{ℤ, _+ℤ_, _-ℤ_}
 use mir.Syntax.{w64}
 use mir.Val.{SFits, toZ, ofZ}
-use mir.Facts.{toZ-ofZ}
 use Rattle.integer.specs.Within.{Within}
 use Rattle.hermite.specs.Polynomial.{coefficient}
 use Rattle.hermite.specs.Slope.{K}
 use Rattle.rounding.specs.HalfSum.{lowerHalfSum}
+use Rattle.rounding.specs.Limits.{gradeMax, sizeMax}
 use Rattle.rounding.specs.Piece.{Piece, piece, m, n, p, q, D}
-use Rattle.rounding.specs.Scaling.{rounded, scaled}
+use Rattle.rounding.specs.Scaling.{scaled}
 use Rattle.rounding.specs.Trend.{Y1, Y2, Y3, scaledK, trend}
 use Rattle.rounding.proofs.Agree.{lowerHalfSum-agree, sumK-agree}
 use Rattle.rounding.proofs.Fits.{K-within, difference-within, slope-within}
 use Rattle.rounding.proofs.Bounds.{sized-within, right-sized}
+use Rattle.rounding.proofs.Scaling.{divided}
+use Rattle.half_sum.specs.Machine.{Binomials}
+use Rattle.knot_weights.specs.Machine.{Weights}
 use Rattle.knot_weights.proofs.Lists.{listed-weights}
-use Rattle.integer.proofs.Within.{within-fits, result-is}
+use Rattle.integer.proofs.Within.{within-fits, computed-is, result-is}
+use Rattle.scaling.specs.Machine.{Complements}
+use Rattle.scaling.specs.declared.fraction.Fraction.{Fraction}
+use Rattle.scaling.proofs.Complements.{complements, exchanged}
 use Rattle.piece.proofs.curve.trend.Statement.{statement}
 use Rattle.piece.proofs.curve.trend.Tie as tie
+
+-- where the function starts, the piece, and the place r in it
+abbrev start : tie.After-right-weights → tie.Start
+start e = e .before .before .before .before .before .before .before .before .before .before
+
+abbrev P : tie.After-right-weights → Piece
+P e = piece (start e .args .h) (start e .args .left .now) (start e .args .right .now)
+
+abbrev at : tie.After-right-weights → ℕ
+at e = start e .args .r
+
+-- the arrays of weights
+abbrev left : tie.After-right-weights → List ℤ
+left e = e .before .before .weights .last .1 .1 .0
+
+abbrev right : tie.After-right-weights → List ℤ
+right e = e .right-weights .last .1 .1 .0
+
+-- the table, the grades, the fractions r/D and (D−r)/D, and the weights
+module _ (e : tie.After-right-weights) where
+  table : Binomials (e .before .before .before .before .before .before .before .before .before .binomials .result)
+  table = e .before .before .before .before .before .before .before .before .before .binomials .ensures
+
+  left-grade : m (P e) ≤ gradeMax
+  left-grade = omega (arith, start e .pre .0 .leftGrade .atMost)
+
+  right-grade : n (P e) ≤ gradeMax
+  right-grade = omega (arith, start e .pre .0 .rightGrade .atMost)
+
+  abbrev s : Fraction
+  s = e .before .before .before .before .before .before .of2 .result
+
+  abbrev complement : Fraction
+  complement = e .before .before .before .before .of3 .result
+
+  D-is : s .d ≡ D (P e)
+  D-is = e .before .before .before .before .before .before .of2 .ensures .1 ∙ e .before .before .before .before .before .before .before .of .ensures .0
+
+  r-is : s .a ≡ at e
+  r-is = e .before .before .before .before .before .before .of2 .ensures .0
+
+  pair : Complements s complement
+  pair =
+      complements (omega (arith, e .before .before .before .before .before .before .before .of .ensures .0))
+      (e .before .before .before .before .before .before .of2 .ensures) (e .before .before .before .before .of3 .ensures)
+
+  complement-is : complement .a ≡ D (P e) - at e
+  complement-is = omega (arith, pair .together, D-is, r-is)
+
+  left-small : Weights sizeMax (left e)
+  left-small =
+      listed-weights (e .before .before .weights .ensures) (λ j. sized-within (start e .args .h) (start e .args .left .now) j (start e .pre .0 .leftSize))
+
+  right-small : Weights sizeMax (right e)
+  right-small =
+      listed-weights (e .right-weights .ensures) (λ j. right-sized (start e .args .h) (start e .args .right .now) j (start e .pre .0 .rightSize))
+
+-- K
+module _ (c : tie.After-sum-k2) where
+  abbrev weighed : tie.After-right-weights
+  weighed = c .before .before .before .before .before .before .before .before
+
+  k-is : toZ w64 (ofZ w64 (c .before .before .sum-k .result)) -ℤ toZ w64 (ofZ w64 (c .sum-k2 .result)) ≡
+      K (m (P weighed)) (n (P weighed)) (p (P weighed)) (q (P weighed))
+  unfolding K
+  k-is =
+      ap₂ (λ x y. x -ℤ y)
+      (result-is (c .before .before .sum-k .result) (c .before .before .sum-k .ok) ∙ c .before .before .sum-k .ensures ∙
+      sumK-agree (n (P weighed)) (m (P weighed)) (λ j h. weighed .right-weights .ensures .entry j (le-trans h (right-grade weighed))))
+      (result-is (c .sum-k2 .result) (c .sum-k2 .ok) ∙ c .sum-k2 .ensures ∙
+      sumK-agree (m (P weighed)) (n (P weighed)) (λ j h. weighed .before .before .weights .ensures .entry j (le-trans h (left-grade weighed))))
+
+  k-fits : SFits w64 (K (m (P weighed)) (n (P weighed)) (p (P weighed)) (q (P weighed)))
+  k-fits = within-fits w64 _ (lit< tt) (K-within (P weighed) (start weighed .pre .0))
+
+-- Y1, Y2, Y3, and Y1 − Y2 + Y3
+module _ (c : tie.After-scaled-k) where
+  abbrev made : tie.After-right-weights
+  made = weighed (c .before)
+
+  abbrev first : tie.After-lower-half-sum
+  first = c .before .before .before .before .before .before .before
+
+  abbrev second : tie.After-lower-half-sum2
+  second = c .before .before .before .before .before
+
+  y1-is : toZ w64 (ofZ w64 (first .lower-half-sum .result)) ≡ Y1 (P made) (at made)
+  unfolding Y1
+  y1-is =
+      result-is (first .lower-half-sum .result) (first .lower-half-sum .ok) ∙ first .lower-half-sum .ensures ∙
+      ap₂ (λ a d. lowerHalfSum (m (P made)) (n (P made)) a d (coefficient (left made))) (r-is made) (D-is made) ∙
+      lowerHalfSum-agree (m (P made)) (n (P made)) (at made) (D (P made))
+      (λ j h. made .before .before .weights .ensures .entry j (le-trans h (left-grade made)))
+
+  y2-is : toZ w64 (ofZ w64 (second .lower-half-sum2 .result)) ≡ Y2 (P made) (at made)
+  unfolding Y2
+  y2-is =
+      result-is (second .lower-half-sum2 .result) (second .lower-half-sum2 .ok) ∙ second .lower-half-sum2 .ensures ∙
+      ap₂ (λ a d. lowerHalfSum (n (P made)) (m (P made)) a d (coefficient (right made))) (complement-is made) (pair made .divisor ∙ D-is made) ∙
+      lowerHalfSum-agree (n (P made)) (m (P made)) (D (P made) - at made) (D (P made))
+      (λ j h. made .right-weights .ensures .entry j (le-trans h (right-grade made)))
+
+  y3-is : toZ w64 (ofZ w64 (c .scaled-k .result)) ≡ Y3 (P made) (at made)
+  unfolding Y3
+  y3-is =
+      result-is (c .scaled-k .result) (c .scaled-k .ok) ∙ c .scaled-k .ensures ∙
+      ap (λ k. scaledK (m (P made)) (n (P made)) (s made .a) (s made .d) k) (computed-is (k-is (c .before)) (k-fits (c .before))) ∙
+      ap₂ (λ a d. scaledK (m (P made)) (n (P made)) a d (K (m (P made)) (n (P made)) (p (P made)) (q (P made)))) (r-is made) (D-is made)
+
+  difference-is : toZ w64 (ofZ w64 (first .lower-half-sum .result)) -ℤ
+      toZ w64 (ofZ w64 (second .lower-half-sum2 .result)) ≡ Y1 (P made) (at made) -ℤ Y2 (P made) (at made)
+  difference-is = ap₂ (λ x y. x -ℤ y) y1-is y2-is
+
+  difference-fits : SFits w64 (Y1 (P made) (at made) -ℤ Y2 (P made) (at made))
+  difference-fits = within-fits w64 _ (lit< tt) (difference-within (P made) (start made .pre .0) (at made) (start made .pre .1))
+
+  abbrev slope : ℤ
+  slope = Y1 (P made) (at made) -ℤ Y2 (P made) (at made) +ℤ Y3 (P made) (at made)
+
+  slope-is : toZ w64 (ofZ w64 (toZ w64 (ofZ w64 (first .lower-half-sum .result)) -ℤ
+      toZ w64 (ofZ w64 (second .lower-half-sum2 .result)))) +ℤ toZ w64 (ofZ w64 (c .scaled-k .result)) ≡ slope
+  slope-is = ap₂ (λ x y. x +ℤ y) (computed-is difference-is difference-fits) y3-is
+
+  slope-small : Within (2 ^ 63 - 1) slope
+  slope-small = slope-within (P made) (start made .pre .0) (at made) (start made .pre .1)
+
+  slope-fits : SFits w64 slope
+  slope-fits = within-fits w64 _ (lit< tt) slope-small
+
+returns : tie.Need-returns
+unfolding trend
+returns c =
+    let y = c .before .before in
+    let f = c .before .of4 in
+    result-is (c .scaled .result) (c .scaled .ok) ∙ c .scaled .ensures ∙
+    ap (λ z. scaled z (f .result .a) (f .result .d)) (computed-is (slope-is y) (slope-fits y)) ∙
+    ap₂ (λ a d. scaled (slope y) a d) (f .ensures .0) (f .ensures .1 ∙ made y .before .before .before .before .before .before .before .of .ensures .0) ∙
+    divided (slope y) (start (made y) .args .h) (start (made y) .pre .0 .gapAtLeast)
+
+-- ---- the needs
 
 sub-m : tie.Need-sub-m
 sub-m c = search needs
@@ -29,11 +177,23 @@ sub-m c = search needs
 sub-n : tie.Need-sub-n
 sub-n c = search needs
 
-mul-of : tie.Need-mul-of
-mul-of c = search needs
+binomials-requires : tie.Need-binomials-requires
+binomials-requires c κs = search needs
+
+slice-aggregate-table : tie.Need-slice-aggregate-table
+slice-aggregate-table c = search needs
 
 of-requires : tie.Need-of-requires
 of-requires c κs = search needs
+
+of-requires-2 : tie.Need-of-requires-2
+of-requires-2 c κs = search needs
+
+sub-of : tie.Need-sub-of
+sub-of c = search needs
+
+of-requires-3 : tie.Need-of-requires-3
+of-requires-3 c κs = search needs
 
 weights-requires : tie.Need-weights-requires
 weights-requires c κs = search needs
@@ -45,174 +205,45 @@ slice-aggregate-lower-half-sum : tie.Need-slice-aggregate-lower-half-sum
 slice-aggregate-lower-half-sum c = search needs
 
 lower-half-sum-requires : tie.Need-lower-half-sum-requires
-lower-half-sum-requires c κs =
-    let b = c .before .before .before .before in
-    let s = c .before .before .before .of in (
-      omega arith,
-      omega arith,
-      record { divides = s .ensures .1; proper = omega (arith, s .ensures .0) },
-      listed-weights (c .before .before .weights .ensures) (λ j. sized-within (b .args .h) (b .args .left .now) j (b .pre .0 .leftSize)),
-    )
-
-sub-complement : tie.Need-sub-complement
-sub-complement c = search needs
+lower-half-sum-requires c κs = let e = c .before in (left-grade e, right-grade e, pair e, table e, left-small e)
 
 slice-aggregate-lower-half-sum-2 : tie.Need-slice-aggregate-lower-half-sum-2
 slice-aggregate-lower-half-sum-2 c = search needs
 
 lower-half-sum-requires-2 : tie.Need-lower-half-sum-requires-2
-lower-half-sum-requires-2 c κs =
-    let b = c .before .before .before .before .before .before .before in
-    let s = c .before .before .before .before .before .before .of in (
-      omega arith,
-      omega arith,
-      record { divides = s .ensures .1; proper = omega arith },
-      listed-weights (c .before .before .before .before .right-weights .ensures) (λ j. right-sized (b .args .h) (b .args .right .now) j (b .pre .0 .rightSize)),
-    )
+lower-half-sum-requires-2 c κs = let e = c .before .before .before in (right-grade e, left-grade e, exchanged (pair e), table e, right-small e)
 
 slice-aggregate-sum-k : tie.Need-slice-aggregate-sum-k
 slice-aggregate-sum-k c = search needs
 
 sum-k-requires : tie.Need-sum-k-requires
-sum-k-requires c κs =
-    let b = c .before .before .before .before .before .before .before .before .before in (
-      omega arith,
-      omega arith,
-      listed-weights (c .before .before .before .before .before .before .right-weights .ensures)
-          (λ j. right-sized (b .args .h) (b .args .right .now) j (b .pre .0 .rightSize)),
-    )
+sum-k-requires c κs = let e = c .before .before .before .before .before in (right-grade e, left-grade e, table e, right-small e)
 
 slice-aggregate-sum-k-2 : tie.Need-slice-aggregate-sum-k-2
 slice-aggregate-sum-k-2 c = search needs
 
 sum-k-requires-2 : tie.Need-sum-k-requires-2
-sum-k-requires-2 c κs =
-    let b = c .before .before .before .before .before .before .before .before .before .before .before in (
-      omega arith,
-      omega arith,
-      listed-weights (c .before .before .before .before .before .before .before .before .before .weights .ensures)
-          (λ j. sized-within (b .args .h) (b .args .left .now) j (b .pre .0 .leftSize)),
-    )
-
--- where the function starts, the piece, the place r in it, and its divisor D
-abbrev start : tie.After-sum-k2 → tie.Start
-start c = c .before .before .before .before .before .before .before .before .before .before .before .before
-
-abbrev P : tie.After-sum-k2 → Piece
-P c = piece (start c .args .h) (start c .args .left .now) (start c .args .right .now)
-
-abbrev at : tie.After-sum-k2 → ℕ
-at c = start c .args .r
-
-D-is : (c : tie.After-sum-k2) → c .before .before .before .before .before .before .before .before .before .before .before .of .result .d ≡ D (P c)
-D-is c = c .before .before .before .before .before .before .before .before .before .before .before .of .ensures .0
-
--- Y1, Y2 and K
-module _ (c : tie.After-sum-k2) where
-  y1-is : c .before .before .before .before .before .before .before .lower-half-sum .result ≡ Y1 (P c) (at c)
-  unfolding Y1
-  y1-is =
-      c .before .before .before .before .before .before .before .lower-half-sum .ensures ∙
-      ap (λ d. lowerHalfSum (m (P c)) (n (P c)) (at c) d (coefficient
-      (c .before .before .before .before .before .before .before .before .before .before .weights .result))) (D-is c) ∙
-      lowerHalfSum-agree (m (P c)) (n (P c)) (at c) (D (P c))
-      (λ j h. c .before .before .before .before .before .before .before .before .before .before .weights .ensures .entry j (omega arith))
-
-  y2-is : c .before .before .before .before .lower-half-sum2 .result ≡ Y2 (P c) (at c)
-  unfolding Y2
-  y2-is =
-      c .before .before .before .before .lower-half-sum2 .ensures ∙
-      ap (λ d. lowerHalfSum (n (P c)) (m (P c)) (d - at c) d
-      (coefficient (c .before .before .before .before .before .before .before .before .before .right-weights .result))) (D-is c) ∙
-      lowerHalfSum-agree (n (P c)) (m (P c)) (D (P c) - at c) (D (P c))
-      (λ j h. c .before .before .before .before .before .before .before .before .before .right-weights .ensures .entry j (omega arith))
-
-  k-is : c .before .before .sum-k .result -ℤ c .sum-k2 .result ≡ K (m (P c)) (n (P c)) (p (P c)) (q (P c))
-  unfolding K
-  k-is =
-      ap₂ (λ x y. x -ℤ y)
-      (c .before .before .sum-k .ensures ∙ sumK-agree (n (P c)) (m (P c))
-      (λ j h. c .before .before .before .before .before .before .before .before .before .right-weights .ensures .entry j (omega arith)))
-      (c .sum-k2 .ensures ∙ sumK-agree (m (P c)) (n (P c)) (λ j h.
-      c .before .before .before .before .before .before .before .before .before .before .weights .ensures .entry j (omega arith)))
-
-  -- as the machine has them
-  machine-k : toZ w64 (ofZ w64 (c .before .before .sum-k .result)) -ℤ toZ w64 (ofZ w64 (c .sum-k2 .result)) ≡ K (m (P c)) (n (P c)) (p (P c)) (q (P c))
-  machine-k =
-      ap₂ (λ x y. x -ℤ y) (result-is (c .before .before .sum-k .result) (c .before .before .sum-k .ok)) (result-is (c .sum-k2 .result) (c .sum-k2 .ok)) ∙ k-is
-
-  k-fits : SFits w64 (K (m (P c)) (n (P c)) (p (P c)) (q (P c)))
-  k-fits = within-fits w64 _ (lit< tt) (K-within (P c) (start c .pre .0))
-
-  machine-difference : toZ w64 (ofZ w64 (c .before .before .before .before .before .before .before .lower-half-sum .result)) -ℤ toZ w64
-      (ofZ w64 (c .before .before .before .before .lower-half-sum2 .result)) ≡
-      Y1 (P c) (at c) -ℤ Y2 (P c) (at c)
-  machine-difference =
-      ap₂ (λ x y. x -ℤ y) (result-is (c .before .before .before .before .before .before .before .lower-half-sum .result)
-      (c .before .before .before .before .before .before .before .lower-half-sum .ok) ∙ y1-is)
-      (result-is (c .before .before .before .before .lower-half-sum2 .result) (c .before .before .before .before .lower-half-sum2 .ok) ∙ y2-is)
-
-  difference-fits : SFits w64 (Y1 (P c) (at c) -ℤ Y2 (P c) (at c))
-  difference-fits = within-fits w64 _ (lit< tt) (difference-within (P c) (start c .pre .0) (at c) (start c .pre .1))
+sum-k-requires-2 c κs = let e = c .before .before .before .before .before .before .before in (left-grade e, right-grade e, table e, left-small e)
 
 sub-k : tie.Need-sub-k
-sub-k c = rw (machine-k c) (k-fits c)
-
-sub-scaled : tie.Need-sub-scaled
-sub-scaled c = rw (machine-difference c) (difference-fits c)
+sub-k c = rw (k-is c) (k-fits c)
 
 scaled-k-requires : tie.Need-scaled-k-requires
-scaled-k-requires c κs =
-    let s = c .before .before .before .before .before .before .before .before .before .before .before .of in
-    (record { divides = s .ensures .1; proper = omega (arith, s .ensures .0) }, rw (machine-k c, toZ-ofZ (k-fits c)) (K-within (P c) (start c .pre .0)))
+scaled-k-requires c κs = (pair (weighed c), rw (computed-is (k-is c) (k-fits c)) (K-within (P (weighed c)) (start (weighed c) .pre .0)))
 
--- Y3, and Y1 − Y2 + Y3
-abbrev slope : tie.After-scaled-k → ℤ
-slope c = Y1 (P (c .before)) (at (c .before)) -ℤ Y2 (P (c .before)) (at (c .before)) +ℤ Y3 (P (c .before)) (at (c .before))
-
-module _ (c : tie.After-scaled-k) where
-  y3-is : c .scaled-k .result ≡ Y3 (P (c .before)) (at (c .before))
-  unfolding Y3
-  y3-is =
-      c .scaled-k .ensures ∙
-      ap₂ (λ d k. scaledK (m (P (c .before))) (n (P (c .before))) (at (c .before)) d k) (D-is (c .before))
-      (ap (λ z. toZ w64 (ofZ w64 z)) (machine-k (c .before)) ∙ toZ-ofZ (k-fits (c .before)))
-
-  sum-within : Within (2 ^ 63 - 1) (slope c)
-  sum-within = slope-within (P (c .before)) (start (c .before) .pre .0) (at (c .before)) (start (c .before) .pre .1)
-
-  sum-fits : SFits w64 (slope c)
-  sum-fits = within-fits w64 _ (lit< tt) sum-within
-
-  machine-sum : let l = c .before .before .before .before .before in
-      toZ w64 (ofZ w64 (toZ w64 (ofZ w64 (l .before .before .before .lower-half-sum .result)) -ℤ toZ w64 (ofZ w64 (l .lower-half-sum2 .result)))) +ℤ toZ
-      w64 (ofZ w64 (c .scaled-k .result)) ≡ slope c
-  machine-sum = ap₂ (λ x y. x +ℤ y) (ap (λ z. toZ w64 (ofZ w64 z)) (machine-difference (c .before)) ∙ toZ-ofZ (difference-fits (c .before)))
-      (result-is (c .scaled-k .result) (c .scaled-k .ok) ∙ y3-is)
+sub-scaled : tie.Need-sub-scaled
+sub-scaled c = rw (difference-is c) (difference-fits c)
 
 add-scaled : tie.Need-add-scaled
-add-scaled c = rw (machine-sum c) (sum-fits c)
+add-scaled c = rw (slope-is c) (slope-fits c)
 
-of-requires-2 : tie.Need-of-requires-2
-of-requires-2 c κs = search needs
+of-requires-4 : tie.Need-of-requires-4
+of-requires-4 c κs =
+    let o = made c .before .before .before .before .before .before .before .of in
+    (rw (o .ensures .0) (omega (arith, start (made c) .pre .0 .gapAtLeast)), o .ensures .1)
 
 scaled-requires : tie.Need-scaled-requires
-scaled-requires c κs = (
-  record { divides = c .of2 .ensures .1; proper = c .of2 .ensures .1 .atLeast },
-  rw (machine-sum (c .before), toZ-ofZ (sum-fits (c .before))) (sum-within (c .before)),
-)
-
--- the division by h is the scaling by 1/h
-divided : (y : ℤ) (d : ℕ) → scaled y 1 d ≡ rounded y d
-unfolding scaled one
-divided y d = ap (λ z. rounded z d) (*ℤ-one y)
-
-returns : tie.Need-returns
-unfolding trend
-returns c =
-    let y = c .before .before in
-    result-is (c .scaled .result) (c .scaled .ok) ∙ c .scaled .ensures ∙
-    ap₂ (λ z d. scaled z 1 d) (ap (λ z. toZ w64 (ofZ w64 z)) (machine-sum y) ∙ toZ-ofZ (sum-fits y)) (c .before .of2 .ensures .0) ∙ divided _ _
+scaled-requires c κs = (c .of4 .ensures .2, rw (computed-is (slope-is (c .before)) (slope-fits (c .before))) (slope-small (c .before)))
 
 pub trend-spec : {M : Type 1} → statement M
 trend-spec =
@@ -220,13 +251,16 @@ trend-spec =
     (tie.spec
     sub-m
     sub-n
-    mul-of
+    binomials-requires
+    slice-aggregate-table
     of-requires
+    of-requires-2
+    sub-of
+    of-requires-3
     weights-requires
     right-weights-requires
     slice-aggregate-lower-half-sum
     lower-half-sum-requires
-    sub-complement
     slice-aggregate-lower-half-sum-2
     lower-half-sum-requires-2
     slice-aggregate-sum-k
@@ -234,9 +268,9 @@ trend-spec =
     slice-aggregate-sum-k-2
     sum-k-requires-2
     sub-k
-    sub-scaled
     scaled-k-requires
+    sub-scaled
     add-scaled
-    of-requires-2
+    of-requires-4
     scaled-requires
     returns)

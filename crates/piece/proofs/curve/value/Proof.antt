@@ -1,25 +1,118 @@
 -- `piece::curve::value` meets its contract: the arrays stand for the piece's weights, and the two half-sums fit.
 use borrow.Author.Needs.{needs}
-use mathlib.Core.Path.{_≡_, _∙_, ap, ap₂}
-use Prim.Native.Nat.{ℕ, _-_}
+use mathlib.Core.Path.{_≡_, _∙_, ap₂}
+use mathlib.Core.List.{List}
+use Prim.Native.Nat.{ℕ, _*_, _-_, _≤_}
+use native.Mathlib.Nat.{le-trans}
 use native.Mathlib.Omega.{arith}
 use lib.Dec.{lit<, lit≤}
-use lib.IntN.{_+ℤ_}
+use lib.IntN.{ℤ, _+ℤ_}
 use mir.Syntax.{w64}
-use mir.Val.{SFits}
-use mir.Facts.{toZ-ofZ}
+use mir.Val.{SFits, toZ, ofZ}
 use Rattle.hermite.specs.Blend.{rightWeights}
 use Rattle.hermite.specs.Polynomial.{coefficient}
 use Rattle.rounding.specs.HalfSum.{halfSum}
+use Rattle.rounding.specs.Limits.{gradeMax, sizeMax}
 use Rattle.rounding.specs.Piece.{Piece, piece, m, n, p, q, D}
 use Rattle.rounding.specs.Value.{value}
 use Rattle.rounding.proofs.Agree.{halfSum-agree}
 use Rattle.rounding.proofs.Fits.{value-within}
 use Rattle.rounding.proofs.Bounds.{sized-within, right-sized}
+use Rattle.half_sum.specs.Machine.{Binomials}
+use Rattle.knot_weights.specs.Machine.{Weights}
 use Rattle.knot_weights.proofs.Lists.{more-weights, listed-weights}
-use Rattle.integer.proofs.Within.{within-fits, result-is}
+use Rattle.integer.proofs.Within.{within-fits, computed-is, result-is}
+use Rattle.scaling.specs.Machine.{Complements}
+use Rattle.scaling.specs.declared.fraction.Fraction.{Fraction}
+use Rattle.scaling.proofs.Complements.{complements, exchanged}
 use Rattle.piece.proofs.curve.value.Statement.{statement}
 use Rattle.piece.proofs.curve.value.Tie as tie
+
+-- where the function starts, the piece, and the place r in it
+abbrev start : tie.After-right-weights → tie.Start
+start e = e .before .before .before .before .before .before .before .before .before .before
+
+abbrev P : tie.After-right-weights → Piece
+P e = piece (start e .args .h) (start e .args .left .now) (start e .args .right .now)
+
+abbrev at : tie.After-right-weights → ℕ
+at e = start e .args .r
+
+-- the arrays of weights
+abbrev left : tie.After-right-weights → List ℤ
+left e = e .before .before .weights .last .1 .1 .0
+
+abbrev right : tie.After-right-weights → List ℤ
+right e = e .right-weights .last .1 .1 .0
+
+-- the table, the grades, the fractions r/D and (D−r)/D, and the weights
+module _ (e : tie.After-right-weights) where
+  table : Binomials (e .before .before .before .before .before .before .before .before .before .binomials .result)
+  table = e .before .before .before .before .before .before .before .before .before .binomials .ensures
+
+  left-grade : m (P e) ≤ gradeMax
+  left-grade = omega (arith, start e .pre .0 .leftGrade .atMost)
+
+  right-grade : n (P e) ≤ gradeMax
+  right-grade = omega (arith, start e .pre .0 .rightGrade .atMost)
+
+  abbrev s : Fraction
+  s = e .before .before .before .before .before .before .of2 .result
+
+  abbrev complement : Fraction
+  complement = e .before .before .before .before .of3 .result
+
+  D-is : s .d ≡ D (P e)
+  D-is = e .before .before .before .before .before .before .of2 .ensures .1 ∙ e .before .before .before .before .before .before .before .of .ensures .0
+
+  r-is : s .a ≡ at e
+  r-is = e .before .before .before .before .before .before .of2 .ensures .0
+
+  pair : Complements s complement
+  pair =
+      complements (omega (arith, e .before .before .before .before .before .before .before .of .ensures .0))
+      (e .before .before .before .before .before .before .of2 .ensures) (e .before .before .before .before .of3 .ensures)
+
+  complement-is : complement .a ≡ D (P e) - at e
+  complement-is = omega (arith, pair .together, D-is, r-is)
+
+  left-small : Weights (7 * sizeMax) (left e)
+  left-small = more-weights (lit≤ tt) (listed-weights (e .before .before .weights .ensures)
+      (λ j. sized-within (start e .args .h) (start e .args .left .now) j (start e .pre .0 .leftSize)))
+
+  right-small : Weights (7 * sizeMax) (right e)
+  right-small = more-weights (lit≤ tt) (listed-weights (e .right-weights .ensures)
+      (λ j. right-sized (start e .args .h) (start e .args .right .now) j (start e .pre .0 .rightSize)))
+
+-- the two half-sums
+module _ (c : tie.After-half-sum2) where
+  abbrev made : tie.After-right-weights
+  made = c .before .before .before .before
+
+  left-is : c .before .before .half-sum .result ≡ halfSum (m (P made)) (n (P made)) (at made) (D (P made)) (p (P made))
+  left-is =
+      c .before .before .half-sum .ensures ∙
+      ap₂ (λ a d. halfSum (m (P made)) (n (P made)) a d (coefficient (left made))) (r-is made) (D-is made) ∙
+      halfSum-agree (m (P made)) (n (P made)) (at made) (D (P made)) (λ j h. made .before .before .weights .ensures .entry j (le-trans h (left-grade made)))
+
+  right-is : c .half-sum2 .result ≡ halfSum (n (P made)) (m (P made)) (D (P made) - at made) (D (P made)) (rightWeights (q (P made)))
+  right-is =
+      c .half-sum2 .ensures ∙
+      ap₂ (λ a d. halfSum (n (P made)) (m (P made)) a d (coefficient (right made))) (complement-is made) (pair made .divisor ∙ D-is made) ∙
+      halfSum-agree (n (P made)) (m (P made)) (D (P made) - at made) (D (P made)) (λ j h. made .right-weights .ensures .entry j (le-trans h (right-grade made)))
+
+  sum-is : toZ w64 (ofZ w64 (c .before .before .half-sum .result)) +ℤ toZ w64 (ofZ w64 (c .half-sum2 .result)) ≡ value (P made) (at made)
+  unfolding value
+  sum-is = ap₂ (λ x y. x +ℤ y) (result-is (c .before .before .half-sum .result) (c .before .before .half-sum .ok) ∙ left-is)
+      (result-is (c .half-sum2 .result) (c .half-sum2 .ok) ∙ right-is)
+
+  sum-fits : SFits w64 (value (P made) (at made))
+  sum-fits = within-fits w64 _ (lit< tt) (value-within (P made) (start made .pre .0) (at made) (start made .pre .1))
+
+returns : tie.Need-returns
+returns c = computed-is (sum-is c) (sum-fits c)
+
+-- ---- the needs
 
 sub-m : tie.Need-sub-m
 sub-m c = search needs
@@ -27,11 +120,23 @@ sub-m c = search needs
 sub-n : tie.Need-sub-n
 sub-n c = search needs
 
-mul-of : tie.Need-mul-of
-mul-of c = search needs
+binomials-requires : tie.Need-binomials-requires
+binomials-requires c κs = search needs
+
+slice-aggregate-table : tie.Need-slice-aggregate-table
+slice-aggregate-table c = search needs
 
 of-requires : tie.Need-of-requires
 of-requires c κs = search needs
+
+of-requires-2 : tie.Need-of-requires-2
+of-requires-2 c κs = search needs
+
+sub-of : tie.Need-sub-of
+sub-of c = search needs
+
+of-requires-3 : tie.Need-of-requires-3
+of-requires-3 c κs = search needs
 
 weights-requires : tie.Need-weights-requires
 weights-requires c κs = search needs
@@ -43,82 +148,16 @@ slice-aggregate-half-sum : tie.Need-slice-aggregate-half-sum
 slice-aggregate-half-sum c = search needs
 
 half-sum-requires : tie.Need-half-sum-requires
-half-sum-requires c κs =
-    let b = c .before .before .before .before in
-    let s = c .before .before .before .of in (
-      omega arith,
-      omega arith,
-      record { divides = s .ensures .1; proper = omega (arith, s .ensures .0) },
-      more-weights (lit≤ tt) (listed-weights (c .before .before .weights .ensures)
-          (λ j. sized-within (b .args .h) (b .args .left .now) j (b .pre .0 .leftSize))),
-    )
-
-sub-complement : tie.Need-sub-complement
-sub-complement c = search needs
+half-sum-requires c κs = let e = c .before in (left-grade e, right-grade e, pair e, table e, left-small e)
 
 slice-aggregate-half-sum-2 : tie.Need-slice-aggregate-half-sum-2
 slice-aggregate-half-sum-2 c = search needs
 
 half-sum-requires-2 : tie.Need-half-sum-requires-2
-half-sum-requires-2 c κs =
-    let b = c .before .before .before .before .before .before .before in
-    let s = c .before .before .before .before .before .before .of in (
-      omega arith,
-      omega arith,
-      record { divides = s .ensures .1; proper = omega arith },
-      more-weights (lit≤ tt) (listed-weights (c .before .before .before .before .right-weights .ensures)
-          (λ j. right-sized (b .args .h) (b .args .right .now) j (b .pre .0 .rightSize))),
-    )
-
--- where the function starts, the piece, the place r in it, and its divisor D
-abbrev start : tie.After-half-sum2 → tie.Start
-start c = c .before .before .before .before .before .before .before .before
-
-abbrev P : tie.After-half-sum2 → Piece
-P c = piece (start c .args .h) (start c .args .left .now) (start c .args .right .now)
-
-abbrev at : tie.After-half-sum2 → ℕ
-at c = start c .args .r
-
-D-is : (c : tie.After-half-sum2) → c .before .before .before .before .before .before .before .of .result .d ≡ D (P c)
-D-is c = c .before .before .before .before .before .before .before .of .ensures .0
-
--- the two half-sums
-module _ (c : tie.After-half-sum2) where
-  left-is : c .before .before .before .half-sum .result ≡ halfSum (m (P c)) (n (P c)) (at c) (D (P c)) (p (P c))
-  left-is =
-      c .before .before .before .half-sum .ensures ∙
-      ap (λ d. halfSum (m (P c)) (n (P c)) (at c) d (coefficient (c .before .before .before .before .before .before .weights .result))) (D-is c) ∙
-      halfSum-agree (m (P c)) (n (P c)) (at c) (D (P c)) (λ j h. c .before .before .before .before .before .before .weights .ensures .entry j (omega arith))
-
-  right-is : c .half-sum2 .result ≡ halfSum (n (P c)) (m (P c)) (D (P c) - at c) (D (P c)) (rightWeights (q (P c)))
-  right-is =
-      c .half-sum2 .ensures ∙
-      ap (λ d. halfSum (n (P c)) (m (P c)) (d - at c) d (coefficient (c .before .before .before .before .before .right-weights .result))) (D-is c) ∙
-      halfSum-agree (n (P c)) (m (P c)) (D (P c) - at c) (D (P c))
-      (λ j h. c .before .before .before .before .before .right-weights .ensures .entry j (omega arith))
-
-  sum-is : c .before .before .before .half-sum .result +ℤ c .half-sum2 .result ≡ value (P c) (at c)
-  unfolding value
-  sum-is = ap₂ (λ x y. x +ℤ y) left-is right-is
-
-  sum-fits : SFits w64 (c .before .before .before .half-sum .result +ℤ c .half-sum2 .result)
-  sum-fits = rw sum-is (within-fits w64 _ (lit< tt) (value-within (P c) (start c .pre .0) (at c) (start c .pre .1)))
+half-sum-requires-2 c κs = let e = c .before .before .before in (right-grade e, left-grade e, exchanged (pair e), table e, right-small e)
 
 add-result : tie.Need-add-result
-add-result c =
-    rw (
-      result-is (c .before .before .before .half-sum .result) (c .before .before .before .half-sum .ok),
-      result-is (c .half-sum2 .result) (c .half-sum2 .ok),
-    ) (sum-fits c)
-
-returns : tie.Need-returns
-returns c =
-    rw (
-      result-is (c .before .before .before .half-sum .result) (c .before .before .before .half-sum .ok),
-      result-is (c .half-sum2 .result) (c .half-sum2 .ok),
-      toZ-ofZ (sum-fits c),
-    ) (sum-is c)
+add-result c = rw (sum-is c) (sum-fits c)
 
 pub value-spec : {M : Type 1} → statement M
 value-spec =
@@ -126,13 +165,16 @@ value-spec =
     (tie.spec
     sub-m
     sub-n
-    mul-of
+    binomials-requires
+    slice-aggregate-table
     of-requires
+    of-requires-2
+    sub-of
+    of-requires-3
     weights-requires
     right-weights-requires
     slice-aggregate-half-sum
     half-sum-requires
-    sub-complement
     slice-aggregate-half-sum-2
     half-sum-requires-2
     add-result

@@ -1,8 +1,6 @@
 -- `piece::slope::scaled_k` meets its contract.
-use borrow.Author.Needs.{needs}
 use mathlib.Core.Path.{_≡_, _∙_, ap}
 use Prim.Native.Nat.{_-_, _^_}
-use native.Mathlib.Omega.{arith}
 use lib.Dec.{lit<, lit≤}
 use lib.IntN.{pos, _*ℤ_}
 use mir.Syntax.{w64}
@@ -13,7 +11,8 @@ use Rattle.hermite.specs.HalfSum.{valueUnit}
 use Rattle.rounding.specs.Scaling.{scaledTimes}
 use Rattle.rounding.specs.Trend.{scaledK}
 use Rattle.rounding.proofs.Bounds.{times-within}
-use Rattle.integer.proofs.Within.{within-natural, within-more, within-mul, within-fits, result-is}
+use Rattle.integer.proofs.Within.{within-natural, within-more, within-mul, within-fits, computed-is, result-is}
+use Rattle.scaling.proofs.Complements.{by-complement}
 use Rattle.piece.proofs.slope.scaled_k.Statement.{statement}
 use Rattle.piece.proofs.slope.scaled_k.Tie as tie
 
@@ -30,35 +29,30 @@ module _ (b : tie.Start) where
 
 -- scaled by r/d, m times
 first-is : (c : tie.After-scaled-times) → let b = c .before in
-    toZ w64 (ofZ w64 (c .scaled-times .result)) ≡ scaledTimes (b .args .m) (pos valueUnit *ℤ b .args .k) (b .args .r) (b .args .divisor .d)
+    toZ w64 (ofZ w64 (c .scaled-times .result)) ≡ scaledTimes (b .args .m) (pos valueUnit *ℤ b .args .k) (b .args .s .a) (b .args .s .d)
 first-is c =
     let b = c .before in
     result-is (c .scaled-times .result) (c .scaled-times .ok) ∙ c .scaled-times .ensures ∙
-    ap (λ z. scaledTimes (b .args .m) z (b .args .r) (b .args .divisor .d)) (ap (λ z. toZ w64 (ofZ w64 z)) (unit-is b) ∙ toZ-ofZ (unit-fits b))
+    ap (λ z. scaledTimes (b .args .m) z (b .args .s .a) (b .args .s .d)) (computed-is (unit-is b) (unit-fits b))
 
 mul-scaled-times : tie.Need-mul-scaled-times
 mul-scaled-times c = rw (unit-is c) (unit-fits c)
 
 scaled-times-requires : tie.Need-scaled-times-requires
-scaled-times-requires c κs = (c .pre .0, rw (unit-is c, toZ-ofZ (unit-fits c)) (unit-within c))
-
-sub-complement : tie.Need-sub-complement
-sub-complement c = search needs
+scaled-times-requires c κs = (c .pre .0 .prepared, rw (computed-is (unit-is c) (unit-fits c)) (unit-within c))
 
 scaled-times-requires-2 : tie.Need-scaled-times-requires-2
 scaled-times-requires-2 c κs =
-    let b = c .before .before in (
-      record { divides = b .pre .0 .divides; proper = omega arith },
-      rw (first-is (c .before)) (times-within (b .args .m) _ (b .args .r) (b .args .divisor .d) (b .pre .0 .divides .atLeast) (b .pre .0 .proper)
-          (unit-within b)),
-    )
+    let b = c .before in
+    let s = b .pre .0 .prepared in
+    (b .pre .0 .other, rw (first-is c) (times-within (b .args .m) _ (b .args .s .a) (b .args .s .d) (s .divides .atLeast) (s .proper) (unit-within b)))
 
 returns : tie.Need-returns
 unfolding scaledK
 returns c =
-    let b = c .before .before .before in
-    result-is (c .scaled-times2 .result) (c .scaled-times2 .ok) ∙ c .scaled-times2 .ensures ∙
-    ap (λ z. scaledTimes (b .args .n) z (b .args .divisor .d - b .args .r) (b .args .divisor .d)) (first-is (c .before .before))
+    let b = c .before .before in
+    result-is (c .scaled-times2 .result) (c .scaled-times2 .ok) ∙ c .scaled-times2 .ensures ∙ by-complement (b .pre .0) (b .args .n) _ ∙
+    ap (λ z. scaledTimes (b .args .n) z (b .args .s .d - b .args .s .a) (b .args .s .d)) (first-is (c .before))
 
 pub scaled-k-spec : {M : Type 1} → statement M
 scaled-k-spec =
@@ -66,6 +60,5 @@ scaled-k-spec =
     (tie.spec
     mul-scaled-times
     scaled-times-requires
-    sub-complement
     scaled-times-requires-2
     returns)

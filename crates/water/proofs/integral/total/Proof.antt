@@ -1,6 +1,6 @@
 -- `water::integral::total` meets its contract: the table gives each end's sum, and h times their sum fits.
 use borrow.Author.Needs.{needs}
-use mathlib.Core.Path.{_≡_, _∙_, ap, ap₂}
+use mathlib.Core.Path.{_≡_, _∙_, ap₂}
 use Prim.Native.Nat.{_+_, _-_, _*_}
 use native.Mathlib.Omega.{arith}
 use lib.Dec.{lit<, lit≤}
@@ -8,7 +8,7 @@ use lib.IntN.{pos, _+ℤ_, _*ℤ_}
 use lib.ListN.{length, length-take, length-drop}
 use mir.Syntax.{w64}
 use mir.Val.{SFits, toZ, ofZ}
-use mir.Facts.{toZ-ofZ, toZ-pos}
+use mir.Facts.{toZ-pos}
 use Rattle.integer.specs.Sum.{sum}
 use Rattle.hermite.specs.Blend.{rightWeights}
 use Rattle.hermite.specs.Water.{weightedSum, c as Water·c}
@@ -17,14 +17,14 @@ use Rattle.rounding.specs.Water.{total}
 use Rattle.rounding.proofs.Fits.{weightedSum-within, total-within}
 use Rattle.rounding.proofs.Bounds.{sized-within, right-sized}
 use Rattle.knot_weights.proofs.Lists.{more-weights, listed-weights}
-use Rattle.integer.proofs.Within.{within-fits, result-is}
+use Rattle.integer.proofs.Within.{within-fits, computed-is, result-is}
 use Rattle.water.proofs.integral.ByTable.{part-small, sums-by-table}
 use Rattle.water.proofs.integral.total.Statement.{statement}
 use Rattle.water.proofs.integral.total.Tie as tie
 
 -- where the function starts, and the piece
 abbrev start : tie.After-weighted2 → tie.Start
-start c = c .before .before .before .before .before .before .before .before .before .before .before
+start c = c .before .before .before .before .before .before .before .before .before .before .before .before .before
 
 abbrev P : tie.After-weighted2 → Piece
 P c = piece (start c .args .h) (start c .args .left .now) (start c .args .right .now)
@@ -37,9 +37,9 @@ module _ (c : tie.After-weighted2) where
   sides-are =
       let a = c .before .before .before .before .before .before .before .before in
       let b = a .before in
-      let d = b .before in
+      let d = b .before .before in
       sums-by-table (a .integral-weights .result) (a .integral-weights .ensures) (m (P c)) (n (P c)) (omega arith) (omega arith)
-      (d .weights .result) (b .right-weights .result)
+      (d .weights .last .1 .1 .0) (b .right-weights .last .1 .1 .0)
       (λ j h. d .weights .ensures .entry j (omega arith)) (λ j h. b .right-weights .ensures .entry j (omega arith))
       (c .before .before .before .before .weighted .ensures) (c .weighted2 .ensures)
 
@@ -55,13 +55,13 @@ module _ (c : tie.After-weighted2) where
   total-is : toZ w64 (start c .args .h) *ℤ toZ w64 (ofZ w64 (toZ w64 (ofZ w64 (c .before .before .before .before .weighted .result)) +ℤ toZ w64
       (ofZ w64 (c .weighted2 .result)))) ≡ total (P c)
   unfolding total
-  total-is = ap₂ (λ x y. x *ℤ y) (toZ-pos w64 {n = start c .args .h} (omega arith)) (ap (λ z. toZ w64 (ofZ w64 z)) sum-is ∙ toZ-ofZ sum-fits)
+  total-is = ap₂ (λ x y. x *ℤ y) (toZ-pos w64 {n = start c .args .h} (omega arith)) (computed-is sum-is sum-fits)
 
   total-fits : SFits w64 (total (P c))
   total-fits = within-fits w64 (total (P c)) (lit< tt) (total-within (P c) (start c .pre))
 
 returns : tie.Need-returns
-returns c = rw (total-is c) (toZ-ofZ (total-fits c))
+returns c = computed-is (total-is c) (total-fits c)
 
 -- ---- the needs
 
@@ -119,8 +119,8 @@ slice-aggregate-weighted c = search needs
 weighted-requires : tie.Need-weighted-requires
 weighted-requires c κs =
     let a = c .before .before .before in
-    let d = a .before .before in
-    let b = d .before in
+    let d = a .before .before .before in
+    let b = d .before .before in
     let row = 64 * (length (b .args .left .now) - 1) + 8 * (length (b .args .right .now) - 1) in (
       omega arith,
       simp (length-take, length-drop) (omega (arith, a .integral-weights .ensures .count)),
@@ -147,7 +147,7 @@ weighted-requires-2 : tie.Need-weighted-requires-2
 weighted-requires-2 c κs =
     let a = c .before .before .before .before .before .before .before in
     let d = a .before in
-    let b = d .before .before in
+    let b = d .before .before .before .before in
     let row = 64 * (length (b .args .right .now) - 1) + 8 * (length (b .args .left .now) - 1) in (
       omega arith,
       simp (length-take, length-drop) (omega (arith, a .integral-weights .ensures .count)),

@@ -1,4 +1,4 @@
--- `scaling::division::scaled_times` meets its contract. The invariant: after i turns v is u scaled i times.
+-- `scaling::fraction::scaled_times` meets its contract. The invariant: after i turns v is u scaled i times.
 use mathlib.Core.Path.{_≡_, refl, _∙_, ap}
 use Prim.Native.Nat.{_-_, _≤_}
 use native.Mathlib.Numerals.{add-one}
@@ -9,14 +9,14 @@ use mir.Facts.{toZ-ofZ}
 use Rattle.rounding.specs.Scaling.{scaled, scaledTimes}
 use Rattle.rounding.proofs.Bounds.{times-within}
 use Rattle.integer.proofs.Within.{result-is}
-use Rattle.scaling.proofs.division.scaled_times.Statement.{statement}
-use Rattle.scaling.proofs.division.scaled_times.Tie as tie
+use Rattle.scaling.proofs.fraction.scaled_times.Statement.{statement}
+use Rattle.scaling.proofs.fraction.scaled_times.Tie as tie
 
 abbrev Inv-loop : tie.InvT-loop
-Inv-loop k u a s v₀ i₀ v i = (i ≤ k) × (toZ w64 v ≡ scaledTimes i (toZ w64 u) a (s .d))
+Inv-loop k u s v₀ i₀ v i = (i ≤ k) × (toZ w64 v ≡ scaledTimes i (toZ w64 u) (s .a) (s .d))
 
 abbrev μ-loop : tie.MeasureT-loop
-μ-loop k u a s v₀ i₀ v i = k - i
+μ-loop k u s v₀ i₀ v i = k - i
 
 loop-holds : tie.Need-loop-holds Inv-loop μ-loop
 unfolding scaledTimes
@@ -27,7 +27,7 @@ scaled-requires c κs =
     let b = c .before .before in (
       b .pre .0,
       rw (c .before .loop .inv .1, toZ-ofZ (b .fits .u))
-          (times-within (c .before .loop .i) (b .args .u) (b .args .a) (b .args .divisor .d) (b .pre .0 .divides .atLeast) (b .pre .0 .proper) (b .pre .1)),
+          (times-within (c .before .loop .i) (b .args .u) (b .args .s .a) (b .args .s .d) (b .pre .0 .divides .atLeast) (b .pre .0 .proper) (b .pre .1)),
     )
 
 add-i : tie.Need-add-i Inv-loop μ-loop
@@ -43,7 +43,7 @@ loop-again c =
     let l = c .before .before .loop in (
       omega arith,
       rw (result-is (c .scaled .result) (c .scaled .ok), add-one)
-          (c .scaled .ensures ∙ ap (λ z. scaled z (b .args .a) (b .args .divisor .d)) (l .inv .1)),
+          (c .scaled .ensures ∙ ap (λ z. scaled z (b .args .s .a) (b .args .s .d)) (l .inv .1)),
     )
 
 returns : tie.Need-returns Inv-loop μ-loop

@@ -1,2 +1,0 @@
--- What the proofs of `slope` use.
-mod Sums

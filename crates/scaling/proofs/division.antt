@@ -1,3 +1,0 @@
--- What the proofs of `division` use.
-mod Parts
-mod Sides

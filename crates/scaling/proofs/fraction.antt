@@ -1,0 +1,2 @@
+-- What the proofs of `fraction` use.
+mod Halves
