@@ -2,9 +2,9 @@
 use mathlib.Core.Path.{_≡_, refl, _∙_, ap}
 use mathlib.Core.List.{List, [], _∷_}
 use Prim.Native.Nat.{ℕ, zero, suc, _*_, _^_, _≤_}
-use native.Mathlib.Nat.{pow-zero, pow-suc, pow-le-pow-right}
+use native.Mathlib.Nat.{pow-zero, pow-suc}
 use native.Mathlib.Omega.{arith}
-use lib.Dec.{lit<}
+use lib.Dec.{lit≤}
 use lib.IntN.{ℤ, pos, negℤ, _*ℤ_}
 use Rattle.integer.specs.Within.{Within}
 use Rattle.integer.proofs.Laws.{*ℤ-left-comm}
@@ -15,6 +15,7 @@ use Rattle.hermite.specs.Blend.{rightWeights}
 use Rattle.hermite.specs.Polynomial.{coefficient}
 use Rattle.rounding.specs.Limits.{gapMax, gradeMax}
 use Rattle.rounding.specs.Piece.{weight}
+use Rattle.rounding.proofs.Bounds.{power-small}
 use Rattle.knot_weights.specs.Machine.{power, byPowers}
 
 -- at a left end
@@ -33,14 +34,14 @@ power-of-minus-h h zero = refl
 power-of-minus-h h (suc j) = ap (λ x. x *ℤ negℤ (pos h)) (power-of-minus-h h j) ∙ alternate (pos h) (sign j) (power (pos h) j)
 
 -- C_j times them
-pub left-weight : (h : ℕ) (C : List ℤ) (j : ℕ) → byPowers (pos h) C j ≡ weight h C j
-left-weight h C j = ap (λ x. coefficient C j *ℤ x) (power-of-h h j)
+pub left-powers : (h : ℕ) (C : List ℤ) (j : ℕ) → byPowers (pos h) C j ≡ weight h C j
+left-powers h C j = ap (λ x. coefficient C j *ℤ x) (power-of-h h j)
 
-pub right-weight : (h : ℕ) (C : List ℤ) (j : ℕ) → byPowers (negℤ (pos h)) C j ≡ rightWeights (weight h C) j
+pub right-powers : (h : ℕ) (C : List ℤ) (j : ℕ) → byPowers (negℤ (pos h)) C j ≡ rightWeights (weight h C) j
 unfolding rightWeights
-right-weight h C j =
+right-powers h C j =
     ap (λ x. coefficient C j *ℤ x) (power-of-minus-h h j) ∙ *ℤ-left-comm (coefficient C j) (sign j) (power (pos h) j) ∙
-    ap (λ x. sign j *ℤ x) (left-weight h C j)
+    ap (λ x. sign j *ℤ x) (left-powers h C j)
 
 -- how large they are
 power-within : {B : ℕ} (z : ℤ) (j : ℕ) → Within B z → Within (B ^ j) (power z j)
@@ -50,4 +51,4 @@ power-within {B} z (suc j) w = within-more (omega (arith, pow-suc B j)) (within-
 
 -- of h or −h, to an order
 pub power-most : (z : ℤ) (j : ℕ) → j ≤ gradeMax → Within gapMax z → Within (2 ^ 28) (power z j)
-power-most z j h w = within-more (pow-le-pow-right {n = gapMax} (lit< tt) h) (power-within z j w)
+power-most z j h w = within-more (power-small gapMax j (lit≤ tt) h) (power-within z j w)

@@ -11,7 +11,7 @@ use Rattle.hermite.specs.Slope.{sumK, K}
 use Rattle.hermite.specs.Water.{waterUnit, weightedSum}
 use Rattle.rounding.specs.HalfSum.{halfSum}
 use Rattle.rounding.specs.Piece.{Piece, m, n, p, q, D}
-use Rattle.rounding.specs.Limits.{sizeMax}
+use Rattle.rounding.specs.Limits.{gradeMax, sizeMax}
 use Rattle.rounding.specs.Size.{Admitted}
 use Rattle.rounding.specs.Trend.{Y1, Y2, Y3}
 use Rattle.rounding.specs.Value.{value}
@@ -19,10 +19,16 @@ use Rattle.rounding.specs.Water.{total}
 use Rattle.rounding.proofs.Bounds.{sized-within, right-sized, half-within, lower-within, sumK-within, scaledK-within, side-within}
 
 module _ (P : Piece) (admitted : Admitted P) where
-  left-weight : (j : ℕ) → Within sizeMax (p P j)
+  pub left-grade : m P ≤ gradeMax
+  left-grade = omega (arith, admitted .leftGrade .atMost)
+
+  pub right-grade : n P ≤ gradeMax
+  right-grade = omega (arith, admitted .rightGrade .atMost)
+
+  pub left-weight : (j : ℕ) → Within sizeMax (p P j)
   left-weight j = sized-within (P .h) (P .left) j (admitted .leftSize)
 
-  right-weight : (j : ℕ) → Within sizeMax (rightWeights (q P) j)
+  pub right-weight : (j : ℕ) → Within sizeMax (rightWeights (q P) j)
   right-weight j = right-sized (P .h) (P .right) j (admitted .rightSize)
 
   -- K: at most 91,520 × 2^28 from each end

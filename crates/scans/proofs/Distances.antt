@@ -10,6 +10,7 @@ use Rattle.rounding.specs.Taylor.{Taylor}
 use Rattle.rounding.specs.Trend.{TrendDistance}
 use Rattle.rounding.specs.Value.{ValueDistance}
 use Rattle.rounding.specs.Water.{total}
+use Rattle.rounding.proofs.Fits.{left-grade, right-grade}
 use Rattle.rounding.proofs.Distance.Trend.{trend-distance}
 use Rattle.rounding.proofs.Distance.Value.{value-distance}
 use Rattle.rounding.proofs.Integral.{total-is}
@@ -34,7 +35,7 @@ module _ (scans : List Scan) (st : Standing scans) where
     trend-near =
         let lies = trend-lies scans st x within in
         let a = piece-admitted scans st (trendPlace scans x .k) (lies .piece) in
-        trend-distance _ _ (a .gapAtLeast) (omega (arith, a .leftGrade .atMost)) (omega (arith, a .rightGrade .atMost)) (lies .within)
+        trend-distance _ _ (a .gapAtLeast) (left-grade _ a) (right-grade _ a) (lies .within)
 
   pub total-exact : (i j : ℕ) → i ≤ j → j < length scans → totalOver scans i j ≡ integralOver scans i j
   unfolding totalOver integralOver
@@ -43,9 +44,9 @@ module _ (scans : List Scan) (st : Standing scans) where
       exact : (k : ℕ) → i ≤ k → k < i + (j - i) → total (pieceOf scans k) ≡ exactIntegral (pieceOf scans k)
       exact k l g =
           let a = piece-admitted scans st k (omega arith) in
-          total-is (pieceOf scans k) (omega (arith, a .leftGrade .atMost)) (omega (arith, a .rightGrade .atMost))
+          total-is (pieceOf scans k) (left-grade _ a) (right-grade _ a)
 
   pub taylor-of : (k : ℕ) → suc k < length scans → Taylor (pieceOf scans k)
   taylor-of k h =
       let a = piece-admitted scans st k h in
-      taylor-holds (pieceOf scans k) (omega (arith, a .leftGrade .atMost)) (omega (arith, a .rightGrade .atMost))
+      taylor-holds (pieceOf scans k) (left-grade _ a) (right-grade _ a)

@@ -42,8 +42,8 @@ module _ (c : tie.After-w Inv-loop μ-loop) where
   wide-fits : let l = c .before .before in SFits w64 (coefficient (l .before .args .c .now) (l .loop .j))
   wide-fits = let l = c .before .before in within-fits w64 (coefficient (l .before .args .c .now) (l .loop .j)) (lit< tt) coefficient-small
 
-  power-small : let l = c .before .before in Within (2 ^ 28) (Machine·power (toZ w64 (ofZ w64 (l .before .args .base))) (l .loop .j))
-  power-small = let l = c .before .before in rw base-is (power-most (l .before .args .base) (l .loop .j) (omega arith) (l .before .pre .0))
+  this-power : let l = c .before .before in Within (2 ^ 28) (Machine·power (toZ w64 (ofZ w64 (l .before .args .base))) (l .loop .j))
+  this-power = let l = c .before .before in rw base-is (power-most (l .before .args .base) (l .loop .j) (omega arith) (l .before .pre .0))
 
   product-is : let l = c .before .before in
       toZ w64 (ofZ w64 (toZ w32 (ofZ w32 (coefficient (l .before .args .c .now) (l .loop .j))))) *ℤ toZ w64 (l .loop .power) ≡ byPowers
@@ -51,7 +51,7 @@ module _ (c : tie.After-w Inv-loop μ-loop) where
   product-is = ap₂ (λ x y. x *ℤ y) (computed-is (toZ-ofZ coefficient-fits) wide-fits) (c .before .before .loop .inv .1)
 
   product-fits : let l = c .before .before in SFits w64 (byPowers (toZ w64 (ofZ w64 (l .before .args .base))) (l .before .args .c .now) (l .loop .j))
-  product-fits = within-fits w64 _ (lit< tt) (within-mul _ _ coefficient-small power-small)
+  product-fits = within-fits w64 _ (lit< tt) (within-mul _ _ coefficient-small this-power)
 
   next-is : let l = c .before .before in
       toZ w64 (l .loop .power) *ℤ toZ w64 (ofZ w64 (l .before .args .base)) ≡ Machine·power (toZ w64 (ofZ w64 (l .before .args .base))) (l .loop .j + 1)

@@ -11,7 +11,7 @@ use Rattle.integer.specs.Within.{Within}
 use Rattle.integer.proofs.Within.{within-natural, within-more, within-neg, within-fits, computed-is}
 use Rattle.rounding.specs.Limits.{gapMax}
 use Rattle.knot_weights.specs.Machine.{byPowers}
-use Rattle.knot_weights.proofs.SignedPowers.{right-weight}
+use Rattle.knot_weights.proofs.SignedPowers.{right-powers}
 use Rattle.knot_weights.proofs.powers.right_weights.Statement.{statement}
 use Rattle.knot_weights.proofs.powers.right_weights.Tie as tie
 
@@ -33,7 +33,7 @@ returns c =
     record {
       count = c .by-powers .ensures .count;
       entry = λ j h. c .by-powers .ensures .entry j h ∙ ap (λ z. byPowers z (b .args .c .now) j) (computed-is (base-is b) (base-fits b)) ∙
-          right-weight (b .args .h) (b .args .c .now) j;
+          right-powers (b .args .h) (b .args .c .now) j;
     }
 
 cast-by-powers : tie.Need-cast-by-powers

@@ -5,7 +5,7 @@ use mir.Syntax.{w64}
 use mir.Facts.{toZ-pos}
 use Rattle.integer.proofs.Within.{within-natural, within-more}
 use Rattle.knot_weights.specs.Machine.{byPowers}
-use Rattle.knot_weights.proofs.SignedPowers.{left-weight}
+use Rattle.knot_weights.proofs.SignedPowers.{left-powers}
 use Rattle.knot_weights.proofs.powers.weights.Statement.{statement}
 use Rattle.knot_weights.proofs.powers.weights.Tie as tie
 
@@ -23,7 +23,7 @@ returns c =
     record {
       count = c .by-powers .ensures .count;
       entry = λ j h. c .by-powers .ensures .entry j h ∙ ap (λ z. byPowers z (b .args .c .now) j) (toZ-pos w64 {n = b .args .h} (omega (arith, b .pre .0))) ∙
-          left-weight (b .args .h) (b .args .c .now) j;
+          left-powers (b .args .h) (b .args .c .now) j;
     }
 
 pub weights-spec : {M : Type 1} → statement M

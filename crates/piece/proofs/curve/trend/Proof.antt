@@ -2,7 +2,7 @@
 use borrow.Author.Needs.{needs}
 use mathlib.Core.Path.{_≡_, _∙_, ap, ap₂}
 use mathlib.Core.List.{List}
-use Prim.Native.Nat.{ℕ, _-_, _^_, _≤_}
+use Prim.Native.Nat.{ℕ, _-_, _^_}
 use native.Mathlib.Nat.{le-trans}
 use native.Mathlib.Omega.{arith}
 use lib.Dec.{lit<}
@@ -13,13 +13,13 @@ use Rattle.integer.specs.Within.{Within}
 use Rattle.hermite.specs.Polynomial.{coefficient}
 use Rattle.hermite.specs.Slope.{K}
 use Rattle.rounding.specs.HalfSum.{lowerHalfSum}
-use Rattle.rounding.specs.Limits.{gradeMax, sizeMax}
+use Rattle.rounding.specs.Limits.{sizeMax}
 use Rattle.rounding.specs.Piece.{Piece, piece, m, n, p, q, D}
 use Rattle.rounding.specs.Scaling.{scaled}
+use Rattle.rounding.specs.Size.{Admitted}
 use Rattle.rounding.specs.Trend.{Y1, Y2, Y3, scaledK, trend}
 use Rattle.rounding.proofs.Agree.{lowerHalfSum-agree, sumK-agree}
-use Rattle.rounding.proofs.Fits.{K-within, difference-within, slope-within}
-use Rattle.rounding.proofs.Bounds.{sized-within, right-sized}
+use Rattle.rounding.proofs.Fits.{left-grade, right-grade, left-weight, right-weight, K-within, difference-within, slope-within}
 use Rattle.rounding.proofs.Scaling.{divided}
 use Rattle.half_sum.specs.Machine.{Binomials}
 use Rattle.knot_weights.specs.Machine.{Weights}
@@ -41,6 +41,9 @@ P e = piece (start e .args .h) (start e .args .left .now) (start e .args .right 
 abbrev at : tie.After-right-weights → ℕ
 at e = start e .args .r
 
+admitted : (e : tie.After-right-weights) → Admitted (P e)
+admitted e = start e .pre .0
+
 -- the arrays of weights
 abbrev left : tie.After-right-weights → List ℤ
 left e = e .before .before .weights .last .1 .1 .0
@@ -48,16 +51,10 @@ left e = e .before .before .weights .last .1 .1 .0
 abbrev right : tie.After-right-weights → List ℤ
 right e = e .right-weights .last .1 .1 .0
 
--- the table, the grades, the fractions r/D and (D−r)/D, and the weights
+-- the table, the fractions r/D and (D−r)/D, and the weights
 module _ (e : tie.After-right-weights) where
   table : Binomials (e .before .before .before .before .before .before .before .before .before .binomials .result)
   table = e .before .before .before .before .before .before .before .before .before .binomials .ensures
-
-  left-grade : m (P e) ≤ gradeMax
-  left-grade = omega (arith, start e .pre .0 .leftGrade .atMost)
-
-  right-grade : n (P e) ≤ gradeMax
-  right-grade = omega (arith, start e .pre .0 .rightGrade .atMost)
 
   abbrev s : Fraction
   s = e .before .before .before .before .before .before .of2 .result
@@ -81,11 +78,11 @@ module _ (e : tie.After-right-weights) where
 
   left-small : Weights sizeMax (left e)
   left-small =
-      listed-weights (e .before .before .weights .ensures) (λ j. sized-within (start e .args .h) (start e .args .left .now) j (start e .pre .0 .leftSize))
+      listed-weights (e .before .before .weights .ensures) (left-weight (P e) (admitted e))
 
   right-small : Weights sizeMax (right e)
   right-small =
-      listed-weights (e .right-weights .ensures) (λ j. right-sized (start e .args .h) (start e .args .right .now) j (start e .pre .0 .rightSize))
+      listed-weights (e .right-weights .ensures) (right-weight (P e) (admitted e))
 
 -- K
 module _ (c : tie.After-sum-k2) where
@@ -98,12 +95,13 @@ module _ (c : tie.After-sum-k2) where
   k-is =
       ap₂ (λ x y. x -ℤ y)
       (result-is (c .before .before .sum-k .result) (c .before .before .sum-k .ok) ∙ c .before .before .sum-k .ensures ∙
-      sumK-agree (n (P weighed)) (m (P weighed)) (λ j h. weighed .right-weights .ensures .entry j (le-trans h (right-grade weighed))))
+      sumK-agree (n (P weighed)) (m (P weighed)) (λ j h. weighed .right-weights .ensures .entry j (le-trans h (right-grade (P weighed) (admitted weighed)))))
       (result-is (c .sum-k2 .result) (c .sum-k2 .ok) ∙ c .sum-k2 .ensures ∙
-      sumK-agree (m (P weighed)) (n (P weighed)) (λ j h. weighed .before .before .weights .ensures .entry j (le-trans h (left-grade weighed))))
+      sumK-agree (m (P weighed)) (n (P weighed))
+      (λ j h. weighed .before .before .weights .ensures .entry j (le-trans h (left-grade (P weighed) (admitted weighed)))))
 
   k-fits : SFits w64 (K (m (P weighed)) (n (P weighed)) (p (P weighed)) (q (P weighed)))
-  k-fits = within-fits w64 _ (lit< tt) (K-within (P weighed) (start weighed .pre .0))
+  k-fits = within-fits w64 _ (lit< tt) (K-within (P weighed) (admitted weighed))
 
 -- Y1, Y2, Y3, and Y1 − Y2 + Y3
 module _ (c : tie.After-scaled-k) where
@@ -122,7 +120,7 @@ module _ (c : tie.After-scaled-k) where
       result-is (first .lower-half-sum .result) (first .lower-half-sum .ok) ∙ first .lower-half-sum .ensures ∙
       ap₂ (λ a d. lowerHalfSum (m (P made)) (n (P made)) a d (coefficient (left made))) (r-is made) (D-is made) ∙
       lowerHalfSum-agree (m (P made)) (n (P made)) (at made) (D (P made))
-      (λ j h. made .before .before .weights .ensures .entry j (le-trans h (left-grade made)))
+      (λ j h. made .before .before .weights .ensures .entry j (le-trans h (left-grade (P made) (admitted made))))
 
   y2-is : toZ w64 (ofZ w64 (second .lower-half-sum2 .result)) ≡ Y2 (P made) (at made)
   unfolding Y2
@@ -130,7 +128,7 @@ module _ (c : tie.After-scaled-k) where
       result-is (second .lower-half-sum2 .result) (second .lower-half-sum2 .ok) ∙ second .lower-half-sum2 .ensures ∙
       ap₂ (λ a d. lowerHalfSum (n (P made)) (m (P made)) a d (coefficient (right made))) (complement-is made) (pair made .divisor ∙ D-is made) ∙
       lowerHalfSum-agree (n (P made)) (m (P made)) (D (P made) - at made) (D (P made))
-      (λ j h. made .right-weights .ensures .entry j (le-trans h (right-grade made)))
+      (λ j h. made .right-weights .ensures .entry j (le-trans h (right-grade (P made) (admitted made))))
 
   y3-is : toZ w64 (ofZ w64 (c .scaled-k .result)) ≡ Y3 (P made) (at made)
   unfolding Y3
@@ -144,7 +142,7 @@ module _ (c : tie.After-scaled-k) where
   difference-is = ap₂ (λ x y. x -ℤ y) y1-is y2-is
 
   difference-fits : SFits w64 (Y1 (P made) (at made) -ℤ Y2 (P made) (at made))
-  difference-fits = within-fits w64 _ (lit< tt) (difference-within (P made) (start made .pre .0) (at made) (start made .pre .1))
+  difference-fits = within-fits w64 _ (lit< tt) (difference-within (P made) (admitted made) (at made) (start made .pre .1))
 
   abbrev slope : ℤ
   slope = Y1 (P made) (at made) -ℤ Y2 (P made) (at made) +ℤ Y3 (P made) (at made)
@@ -154,7 +152,7 @@ module _ (c : tie.After-scaled-k) where
   slope-is = ap₂ (λ x y. x +ℤ y) (computed-is difference-is difference-fits) y3-is
 
   slope-small : Within (2 ^ 63 - 1) slope
-  slope-small = slope-within (P made) (start made .pre .0) (at made) (start made .pre .1)
+  slope-small = slope-within (P made) (admitted made) (at made) (start made .pre .1)
 
   slope-fits : SFits w64 slope
   slope-fits = within-fits w64 _ (lit< tt) slope-small
@@ -205,25 +203,31 @@ slice-aggregate-lower-half-sum : tie.Need-slice-aggregate-lower-half-sum
 slice-aggregate-lower-half-sum c = search needs
 
 lower-half-sum-requires : tie.Need-lower-half-sum-requires
-lower-half-sum-requires c κs = let e = c .before in (left-grade e, right-grade e, pair e, table e, left-small e)
+lower-half-sum-requires c κs = let e = c .before in (left-grade (P e) (admitted e), right-grade (P e) (admitted e), pair e, table e, left-small e)
 
 slice-aggregate-lower-half-sum-2 : tie.Need-slice-aggregate-lower-half-sum-2
 slice-aggregate-lower-half-sum-2 c = search needs
 
 lower-half-sum-requires-2 : tie.Need-lower-half-sum-requires-2
-lower-half-sum-requires-2 c κs = let e = c .before .before .before in (right-grade e, left-grade e, exchanged (pair e), table e, right-small e)
+lower-half-sum-requires-2 c κs =
+    let e = c .before .before .before in
+    (right-grade (P e) (admitted e), left-grade (P e) (admitted e), exchanged (pair e), table e, right-small e)
 
 slice-aggregate-sum-k : tie.Need-slice-aggregate-sum-k
 slice-aggregate-sum-k c = search needs
 
 sum-k-requires : tie.Need-sum-k-requires
-sum-k-requires c κs = let e = c .before .before .before .before .before in (right-grade e, left-grade e, table e, right-small e)
+sum-k-requires c κs =
+    let e = c .before .before .before .before .before in
+    (right-grade (P e) (admitted e), left-grade (P e) (admitted e), table e, right-small e)
 
 slice-aggregate-sum-k-2 : tie.Need-slice-aggregate-sum-k-2
 slice-aggregate-sum-k-2 c = search needs
 
 sum-k-requires-2 : tie.Need-sum-k-requires-2
-sum-k-requires-2 c κs = let e = c .before .before .before .before .before .before .before in (left-grade e, right-grade e, table e, left-small e)
+sum-k-requires-2 c κs =
+    let e = c .before .before .before .before .before .before .before in
+    (left-grade (P e) (admitted e), right-grade (P e) (admitted e), table e, left-small e)
 
 sub-k : tie.Need-sub-k
 sub-k c = rw (k-is c) (k-fits c)

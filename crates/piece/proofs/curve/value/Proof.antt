@@ -12,12 +12,12 @@ use mir.Val.{SFits, toZ, ofZ}
 use Rattle.hermite.specs.Blend.{rightWeights}
 use Rattle.hermite.specs.Polynomial.{coefficient}
 use Rattle.rounding.specs.HalfSum.{halfSum}
-use Rattle.rounding.specs.Limits.{gradeMax, sizeMax}
+use Rattle.rounding.specs.Limits.{sizeMax}
 use Rattle.rounding.specs.Piece.{Piece, piece, m, n, p, q, D}
+use Rattle.rounding.specs.Size.{Admitted}
 use Rattle.rounding.specs.Value.{value}
 use Rattle.rounding.proofs.Agree.{halfSum-agree}
-use Rattle.rounding.proofs.Fits.{value-within}
-use Rattle.rounding.proofs.Bounds.{sized-within, right-sized}
+use Rattle.rounding.proofs.Fits.{left-grade, right-grade, left-weight, right-weight, value-within}
 use Rattle.half_sum.specs.Machine.{Binomials}
 use Rattle.knot_weights.specs.Machine.{Weights}
 use Rattle.knot_weights.proofs.Lists.{more-weights, listed-weights}
@@ -38,6 +38,9 @@ P e = piece (start e .args .h) (start e .args .left .now) (start e .args .right 
 abbrev at : tie.After-right-weights → ℕ
 at e = start e .args .r
 
+admitted : (e : tie.After-right-weights) → Admitted (P e)
+admitted e = start e .pre .0
+
 -- the arrays of weights
 abbrev left : tie.After-right-weights → List ℤ
 left e = e .before .before .weights .last .1 .1 .0
@@ -45,16 +48,10 @@ left e = e .before .before .weights .last .1 .1 .0
 abbrev right : tie.After-right-weights → List ℤ
 right e = e .right-weights .last .1 .1 .0
 
--- the table, the grades, the fractions r/D and (D−r)/D, and the weights
+-- the table, the fractions r/D and (D−r)/D, and the weights
 module _ (e : tie.After-right-weights) where
   table : Binomials (e .before .before .before .before .before .before .before .before .before .binomials .result)
   table = e .before .before .before .before .before .before .before .before .before .binomials .ensures
-
-  left-grade : m (P e) ≤ gradeMax
-  left-grade = omega (arith, start e .pre .0 .leftGrade .atMost)
-
-  right-grade : n (P e) ≤ gradeMax
-  right-grade = omega (arith, start e .pre .0 .rightGrade .atMost)
 
   abbrev s : Fraction
   s = e .before .before .before .before .before .before .of2 .result
@@ -78,11 +75,11 @@ module _ (e : tie.After-right-weights) where
 
   left-small : Weights (7 * sizeMax) (left e)
   left-small = more-weights (lit≤ tt) (listed-weights (e .before .before .weights .ensures)
-      (λ j. sized-within (start e .args .h) (start e .args .left .now) j (start e .pre .0 .leftSize)))
+      (left-weight (P e) (admitted e)))
 
   right-small : Weights (7 * sizeMax) (right e)
   right-small = more-weights (lit≤ tt) (listed-weights (e .right-weights .ensures)
-      (λ j. right-sized (start e .args .h) (start e .args .right .now) j (start e .pre .0 .rightSize)))
+      (right-weight (P e) (admitted e)))
 
 -- the two half-sums
 module _ (c : tie.After-half-sum2) where
@@ -93,13 +90,15 @@ module _ (c : tie.After-half-sum2) where
   left-is =
       c .before .before .half-sum .ensures ∙
       ap₂ (λ a d. halfSum (m (P made)) (n (P made)) a d (coefficient (left made))) (r-is made) (D-is made) ∙
-      halfSum-agree (m (P made)) (n (P made)) (at made) (D (P made)) (λ j h. made .before .before .weights .ensures .entry j (le-trans h (left-grade made)))
+      halfSum-agree (m (P made)) (n (P made)) (at made) (D (P made))
+      (λ j h. made .before .before .weights .ensures .entry j (le-trans h (left-grade (P made) (admitted made))))
 
   right-is : c .half-sum2 .result ≡ halfSum (n (P made)) (m (P made)) (D (P made) - at made) (D (P made)) (rightWeights (q (P made)))
   right-is =
       c .half-sum2 .ensures ∙
       ap₂ (λ a d. halfSum (n (P made)) (m (P made)) a d (coefficient (right made))) (complement-is made) (pair made .divisor ∙ D-is made) ∙
-      halfSum-agree (n (P made)) (m (P made)) (D (P made) - at made) (D (P made)) (λ j h. made .right-weights .ensures .entry j (le-trans h (right-grade made)))
+      halfSum-agree (n (P made)) (m (P made)) (D (P made) - at made) (D (P made))
+      (λ j h. made .right-weights .ensures .entry j (le-trans h (right-grade (P made) (admitted made))))
 
   sum-is : toZ w64 (ofZ w64 (c .before .before .half-sum .result)) +ℤ toZ w64 (ofZ w64 (c .half-sum2 .result)) ≡ value (P made) (at made)
   unfolding value
@@ -107,7 +106,7 @@ module _ (c : tie.After-half-sum2) where
       (result-is (c .half-sum2 .result) (c .half-sum2 .ok) ∙ right-is)
 
   sum-fits : SFits w64 (value (P made) (at made))
-  sum-fits = within-fits w64 _ (lit< tt) (value-within (P made) (start made .pre .0) (at made) (start made .pre .1))
+  sum-fits = within-fits w64 _ (lit< tt) (value-within (P made) (admitted made) (at made) (start made .pre .1))
 
 returns : tie.Need-returns
 returns c = computed-is (sum-is c) (sum-fits c)
@@ -148,13 +147,15 @@ slice-aggregate-half-sum : tie.Need-slice-aggregate-half-sum
 slice-aggregate-half-sum c = search needs
 
 half-sum-requires : tie.Need-half-sum-requires
-half-sum-requires c κs = let e = c .before in (left-grade e, right-grade e, pair e, table e, left-small e)
+half-sum-requires c κs = let e = c .before in (left-grade (P e) (admitted e), right-grade (P e) (admitted e), pair e, table e, left-small e)
 
 slice-aggregate-half-sum-2 : tie.Need-slice-aggregate-half-sum-2
 slice-aggregate-half-sum-2 c = search needs
 
 half-sum-requires-2 : tie.Need-half-sum-requires-2
-half-sum-requires-2 c κs = let e = c .before .before .before in (right-grade e, left-grade e, exchanged (pair e), table e, right-small e)
+half-sum-requires-2 c κs =
+    let e = c .before .before .before in
+    (right-grade (P e) (admitted e), left-grade (P e) (admitted e), exchanged (pair e), table e, right-small e)
 
 add-result : tie.Need-add-result
 add-result c = rw (sum-is c) (sum-fits c)

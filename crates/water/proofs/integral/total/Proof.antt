@@ -14,8 +14,7 @@ use Rattle.hermite.specs.Blend.{rightWeights}
 use Rattle.hermite.specs.Water.{weightedSum, c as Water·c}
 use Rattle.rounding.specs.Piece.{Piece, piece, m, n, p, q}
 use Rattle.rounding.specs.Water.{total}
-use Rattle.rounding.proofs.Fits.{weightedSum-within, total-within}
-use Rattle.rounding.proofs.Bounds.{sized-within, right-sized}
+use Rattle.rounding.proofs.Fits.{left-weight, right-weight, weightedSum-within, total-within}
 use Rattle.knot_weights.proofs.Lists.{more-weights, listed-weights}
 use Rattle.integer.proofs.Within.{within-fits, computed-is, result-is}
 use Rattle.water.proofs.integral.ByTable.{part-small, sums-by-table}
@@ -125,7 +124,7 @@ weighted-requires c κs =
       omega arith,
       simp (length-take, length-drop) (omega (arith, a .integral-weights .ensures .count)),
       part-small (a .integral-weights .result) (a .integral-weights .ensures) (512 - row) row,
-      more-weights (lit≤ tt) (listed-weights (d .weights .ensures) (λ j. sized-within (b .args .h) (b .args .left .now) j (b .pre .leftSize))),
+      more-weights (lit≤ tt) (listed-weights (d .weights .ensures) (left-weight _ (b .pre))),
     )
 
 mul-weighted-2 : tie.Need-mul-weighted-2
@@ -152,7 +151,7 @@ weighted-requires-2 c κs =
       omega arith,
       simp (length-take, length-drop) (omega (arith, a .integral-weights .ensures .count)),
       part-small (a .integral-weights .result) (a .integral-weights .ensures) (512 - row) row,
-      more-weights (lit≤ tt) (listed-weights (d .right-weights .ensures) (λ j. right-sized (b .args .h) (b .args .right .now) j (b .pre .rightSize))),
+      more-weights (lit≤ tt) (listed-weights (d .right-weights .ensures) (right-weight _ (b .pre))),
     )
 
 add-result : tie.Need-add-result
