@@ -1,22 +1,24 @@
 #!/usr/bin/env python3
-"""Document 01 in exact fractions: what the engine's numbers are held against.
+"""Document 01 in exact fractions, with request 1/14 of document 02: what the engine's numbers are held against.
 
-Written from the document, in its letters, and not from the Rattle text: the blend is formula (1)
+Written from the documents, in their letters, and not from the Rattle text: the blend is formula (1)
 multiplied out, the derivative comes by differentiating it and the total by integrating it. Every case
 that is made has its distances, its total and its Taylor coefficients checked. The rounding steps
 themselves are held against the document's known results here, and against the engine by the stored
-files that `vectors` makes. The document stands in document/, what the stored files are made of in stored/.
+files that `vectors` makes. The documents stand in document/, what the stored files are made of in stored/.
 
   exact.py vectors  make the stored input and output of crates/piece_vectors again
   exact.py replay   make the stored input and output of crates/replay again
   exact.py reports  make the stored input and output of crates/report and crates/report_runs again
   exact.py pack     the text of a reel to its block, standard input to standard output; a line of the text
-                    is a knot, POSITION C_0 C_1 .., and empty lines and those that begin with # are none
+                    is a knot, POSITION C_0 C_1 .., or one with readings, POSITION C_0 C_1 .. : R_0 R_1 ..; empty
+                    lines and those that begin with # are none; where a knot has readings, the block is of edition 2
   exact.py unpack   a block to its text
   exact.py check    hold all entries of "Scans with known results", the integral weights of source document
                     001, and a sweep over all grades and gaps; then the worked block, its report and its text,
-                    the stored reports, and the replay script, with the reel's round trip after every call and that
-                    of every block it accepts
+                    the stored reports; of blocks by chance, text and bytes with readings, that the operator's
+                    answers skip these, and the views; and the replay script, with the reel's round trip after
+                    every call and that of every block it accepts
 """
 import sys
 
@@ -25,14 +27,16 @@ sys.dont_write_bytecode = True  # before the other imports, so that they leave n
 from collections import Counter
 from pathlib import Path
 
-from document.block import block_of, knots_of, packed
+from document.block import block_of, contents_of, packed
 from document.hold import Broken
 from document.knot import Refused
-from document.known_results import WORKED, hold_known_refusals, hold_known_results, hold_worked_report, hold_worked_text
+from document.known_results import WORKED, hold_known_refusals, hold_known_results, hold_worked_report
 from document.piece import case
+from document.readings import hold_readings
 from document.report import report_of
 from document.sweep import hold_ends_of_bounds, hold_integral_weights, hold_sweep
-from document.text import Unreadable, knots_of_text, text_of
+from document.text import Unreadable, contents_of_text, text_of
+from document.texts import hold_texts
 from stored.replay_lines import kind_of_answer
 from stored.reports import stored_reports
 from stored.script import transcript
@@ -75,7 +79,7 @@ def reports():
 
 def pack():
     try:
-        sys.stdout.buffer.write(block_of(knots_of_text(sys.stdin.buffer.read())))
+        sys.stdout.buffer.write(block_of(*contents_of_text(sys.stdin.buffer.read())))
     except Refused as refused:
         sys.exit("refused {} at line {}".format(*refused.args))
     except Unreadable as unreadable:
@@ -84,7 +88,7 @@ def pack():
 
 def unpack():
     try:
-        sys.stdout.write(text_of(knots_of(sys.stdin.buffer.read())))
+        sys.stdout.write(text_of(*contents_of(sys.stdin.buffer.read())))
     except Refused as refused:
         sys.exit(f"refused {refused.args[0]}")
 
@@ -96,8 +100,9 @@ def check():
     cases = hold_sweep()
     print(f"{entries} entries of \"Scans with known results\" held; {cases} further cases within their distances")
     hold_worked_report()
-    hold_worked_text()
+    hold_texts()
     print(f"the worked block's report and text held; {len(stored_reports())} stored blocks reported")
+    print(f"{hold_readings()} pairs of blocks that differ only in readings and end count give the same list and report")
     script = transcript()
     print(f"the worked block held; {len(script.answers)} calls of the replay script answered, {script.round_trips} round trips held")
 

@@ -1,9 +1,11 @@
-"""The block: its words and their fields, written from a list of knots and read back."""
+"""The block: its words and their fields, written from a list of knots and read back; in edition 2 with readings."""
 import struct
 
 from document.knot import KNOTS_MAX, misplaced, oversized, refuse, too_far
 
-BLOCK_MAX = 4_652
+WRITTEN_MAX = 4_652
+READINGS_MAX = 32
+READING_MAX = 65_535
 
 
 # ---- the words of a block ("Block"): 32 bits, the kind in the top two, the payload in the other 30
@@ -11,7 +13,8 @@ BLOCK_MAX = 4_652
 
 PAYLOAD = 30
 HEADER, KNOT, COEFFICIENT, END = range(4)
-EDITION = 1
+EDITION, EDITION_OF_READINGS = 1, 2
+READING_BIT = 29
 
 
 def word(kind, payload):
@@ -57,6 +60,20 @@ def end_word(before):
     return word(END, before)
 
 
+def reading_word(reading, spare=0):
+    """It shares its kind with the end word; bit 29 tells them apart (request 1/14)."""
+    return word(END, 1 << READING_BIT | spare << 16 | reading)
+
+
+def is_reading(w):
+    return kind_of(w) == END and payload_of(w) >> READING_BIT == 1
+
+
+def reading_fields(payload):
+    """The reading, and the bits 16 to 28, which are to be 0."""
+    return payload & 0xFFFF, payload >> 16 & 0x1FFF
+
+
 def packed(words):
     """Low byte first."""
     return struct.pack(f"<{len(words)}I", *words)
@@ -74,17 +91,41 @@ def with_end(words):
     return [*words, end_word(len(words))]
 
 
-def words_of_knot(position, coefficients):
-    return [knot_word(position, len(coefficients) - 1), *map(coefficient_word, coefficients)]
+def words_of_knot(position, coefficients, readings=()):
+    return [
+        knot_word(position, len(coefficients) - 1), *map(coefficient_word, coefficients), *map(reading_word, readings),
+    ]
 
 
-def block_words(knots):
-    return with_end([header_word(len(knots)), *(w for knot in knots for w in words_of_knot(*knot))])
+def block_words(knots, readings=()):
+    """In edition 1; with the readings of each knot beside them, where some knot has one, in edition 2."""
+    readings = readings or [()] * len(knots)
+    edition = EDITION_OF_READINGS if any(readings) else EDITION
+    of_knots = [w for knot, beside in zip(knots, readings, strict=True) for w in words_of_knot(*knot, beside)]
+    return with_end([header_word(len(knots), edition), *of_knots])
 
 
-def block_of(knots):
-    """The bytes of the block of a list of knots."""
-    return packed(block_words(knots))
+def block_of(knots, readings=()):
+    """The bytes of the block of a list of knots, with their readings."""
+    return packed(block_words(knots, readings))
+
+
+def in_edition(words, edition):
+    """The words of a block with another edition in their header."""
+    count, _, spare = header_fields(payload_of(words[0]))
+    return [header_word(count, edition, spare), *words[1:]]
+
+
+def without_readings(words):
+    """The words of a block but for its readings, with the end count set right."""
+    return with_end([w for w in words[:-1] if not is_reading(w)])
+
+
+def rewritten(block):
+    """What write gives of an accepted block: itself, or of edition 2 its words without readings, in edition 1."""
+    words = unpacked(block)
+    _, edition, _ = header_fields(payload_of(words[0]))
+    return block if edition == EDITION else packed(in_edition(without_readings(words), EDITION))
 
 
 # ---- reading a block ("Order", Read): faults in word order
@@ -96,15 +137,27 @@ def take(words, kind):
     return payload_of(words.pop(0))
 
 
-def knots_of(block):
-    """The list of a block: one knot for each knot word, with its position and the coefficients in its coefficient words."""
+def take_readings(words):
+    """Those of one knot, to the first word that is none: of each its form, then 12 if it is one too many."""
+    readings = []
+    while words and is_reading(words[0]):
+        reading, spare = reading_fields(take(words, END))
+        refuse(1, spare)
+        refuse(12, len(readings) == READINGS_MAX)
+        readings.append(reading)
+    return tuple(readings)
+
+
+def contents_of(block):
+    """The list of a block: one knot for each knot word, with its position and the coefficients in its coefficient
+    words. Beside it, since they are no part of it, the readings of each knot: edition 2 alone has them."""
     refuse(1, len(block) % 4 or len(block) < 8)
     words = unpacked(block)
     length = len(words)
     count, edition, spare = header_fields(take(words, HEADER))
-    refuse(1, edition != EDITION or spare)
+    refuse(1, edition not in (EDITION, EDITION_OF_READINGS) or spare)
     refuse(2, count > KNOTS_MAX)
-    knots = []
+    knots, readings = [], []
     for _ in range(count):
         position, grade, spare = knot_fields(take(words, KNOT))
         refuse(1, spare)
@@ -113,7 +166,18 @@ def knots_of(block):
         coefficients = tuple(coefficient_of(take(words, COEFFICIENT)) for _ in range(grade + 1))
         refuse(6, oversized(knots, position, coefficients))
         knots.append((position, coefficients))
+        readings.append(take_readings(words) if edition == EDITION_OF_READINGS else ())
     before = length - len(words)
     refuse(1, take(words, END) != before)
     refuse(1, words)
-    return knots
+    return knots, readings
+
+
+def knots_of(block):
+    """The list of a block."""
+    return contents_of(block)[0]
+
+
+def readings_of(block):
+    """The readings of each of its knots."""
+    return contents_of(block)[1]

@@ -1,12 +1,11 @@
 """Document 01's "Scans with known results" and its worked block, and that they hold."""
-from document.block import BLOCK_MAX, block_of, block_words, knots_of
+from document.block import WRITTEN_MAX, READINGS_MAX, block_of, block_words, knots_of
 from document.coefficients import FLAT, only
 from document.hold import hold
-from document.knot import GRADE_MAX, KNOTS_MAX, Refused
+from document.knot import GRADE_MAX, KNOTS_MAX
 from document.piece import Piece, case
 from document.reel import Reel
-from document.report import report_of
-from document.text import Unreadable, knots_of_text, text_of
+from document.report import INPUT_MAX, report_of
 
 # The entries of "Scans with known results" that concern one piece: the piece, r, what is asked there and the answer.
 KNOWN_RESULTS = [
@@ -60,31 +59,9 @@ def hold_worked_block():
     hold(block_words(WORKED) == [int(w, 16) for w in WORKED_WORDS.split()], "the words of the worked block")
     hold(knots_of(block_of(WORKED)) == list(WORKED), "the knots of the worked block")
     full = [(k, (0,) * (GRADE_MAX + 1)) for k in range(KNOTS_MAX)]
-    hold(len(block_of(full)) == BLOCK_MAX, "the longest block")
+    hold(len(block_of(full)) == WRITTEN_MAX, "the longest block")
+    hold(len(block_of(full, [(0,) * READINGS_MAX] * KNOTS_MAX)) == INPUT_MAX, "the longest block with readings")
 
 
 def hold_worked_report():
     hold(report_of(block_of(WORKED)) == WORKED_REPORT, "the report of the worked block:", report_of(block_of(WORKED)))
-
-
-def hold_worked_text():
-    """Packed and unpacked, from the text and from the block; and what is refused, with its line."""
-    text = text_of(WORKED)
-    hold(text == "10 0 0\n12 4 0\n13 4\n", "the text of the worked block:", text)
-    hold(block_of(knots_of_text(text.encode())) == block_of(WORKED), "the worked block from its text")
-    hold(text_of(knots_of(block_of(WORKED))) == text, "the text from the worked block")
-    hold(knots_of_text(b"# one\n\n10 0 0\r\n  12  4 0") == list(WORKED[:2]), "what is passed over in a text")
-    for faulty_text, fault in (
-        (b"1 1\n\n18 1\n", Refused(5, 3)),
-        (b"1 1\n1 1", Refused(4, 2)),
-        (b"7", Refused(3, 1)),
-        (b"7 268435457", Refused(6, 1)),
-        (b"7 1\n8 x", Unreadable(2)),
-        (b"7 2147483648", Unreadable(1)),
-    ):
-        try:
-            knots_of_text(faulty_text)
-        except (Refused, Unreadable) as found:
-            hold((type(found), found.args) == (type(fault), fault.args), faulty_text, "gives", repr(found))
-        else:
-            hold(False, faulty_text, "is taken")

@@ -1,12 +1,13 @@
 """The report ("Reel report")."""
-from document.block import BLOCK_MAX
 from document.piece import UNIT_OF_POSITION
 from document.reel import Reel
+
+INPUT_MAX = 21_164
 
 
 def report_of(block):
     """The lines for a block of any length: its limit comes first, then read's refusal, then 8."""
-    if len(block) > BLOCK_MAX:
+    if len(block) > INPUT_MAX:
         return "refused 1\n"
     reel = Reel()
     number = reel.read(block)

@@ -4,6 +4,7 @@ import re
 from document.block import block_of
 from document.reel import Reel, same
 from document.text import Unreadable, signed, unsigned, whole
+from document.view import view, view_at
 
 PASSED_OVER = (b"#", b"=", b"~")
 LENT = b"\xa5"
@@ -46,6 +47,18 @@ def answered(query, answer):
     return f"{query} {answer[0]}" if isinstance(answer, list) else line_of(answer)
 
 
+def line_of_view(answer):
+    """The number of readings that a view shows, and these; or its refusal."""
+    return " ".join(map(str, ("view", len(answer), *answer))) if isinstance(answer, list) else line_of(answer)
+
+
+def line_of_shown(answer):
+    """One reading of a view, or that it is past the last; or the view's refusal."""
+    if not isinstance(answer, list):
+        return line_of(answer)
+    return f"reading {answer[0]}" if answer else "past"
+
+
 def kind_of_answer(answer):
     return " ".join(answer.split(" ")[: 2 if answer.startswith("refused") else 1])
 
@@ -83,6 +96,10 @@ def answer_to_call(line, reel):
             return answered("total", reel.total(unsigned(i), unsigned(j)))
         case [b"same", block, other]:
             return line_of(same(accepted_reel(bytes_of_hex(block)), accepted_reel(bytes_of_hex(other))))
+        case [b"view", block, k, n]:
+            return line_of_view(view(bytes_of_hex(block), unsigned(k), unsigned(n)))
+        case [b"viewat", block, k, n, i]:
+            return line_of_shown(view_at(bytes_of_hex(block), unsigned(k), unsigned(n), unsigned(i)))
     raise Unreadable
 
 

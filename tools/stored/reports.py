@@ -2,13 +2,14 @@
 import random
 from collections import Counter
 
-from document.block import BLOCK_MAX, block_of, block_words, end_word, header_word, packed
+from document.block import block_of, block_words, end_word, header_word, packed
 from document.coefficients import MORE, MOST, extreme, greatest, only, ordinary
 from document.hold import hold
 from document.knot import GAP_MAX, GRADE_MAX, KNOTS_MAX, POSITION_MAX, SIZE_MAX
 from document.known_results import WORKED
-from document.report import report_of
+from document.report import INPUT_MAX, report_of
 from stored.faults import SOUND, all_faults, faulty
+from stored.readings import greatest_block, tried_blocks
 from stored.reels import laid_out, reel_of_all_pairs
 
 
@@ -18,8 +19,8 @@ def blocks_at_limits():
     worked = block_of(WORKED)
     yield from (worked, b"", worked[:1], worked[:4], packed([header_word(0)]), worked[:7], worked[:-1], worked[:-4], worked + b"\0")
     yield from (seventh, seventh + b"\0", seventh + bytes(4), seventh[:-1], seventh[:-4])
-    yield packed([header_word(200)] + [0] * (BLOCK_MAX // 4))
-    yield packed([header_word(200)] + [0] * (BLOCK_MAX // 4 - 1))
+    yield packed([header_word(200)] + [0] * (INPUT_MAX // 4))
+    yield packed([header_word(200)] + [0] * (INPUT_MAX // 4 - 1))
     for knots in ((), (WORKED[0],), ((POSITION_MAX, MOST),), WORKED[:2], ((0, (1,)), (1, (0,))), ((10, (1,)), (12, (0,)))):
         yield block_of(knots)
     top = POSITION_MAX
@@ -39,10 +40,11 @@ def blocks_by_chance():
 
 
 def faulty_blocks():
-    """Each number that read gives: the faults of a block of three knots, 1 once at each place; faults of blocks of one knot or none."""
+    """Each number that read gives: the faults of a block of three knots, 1 and edition 2 once at each place; faults of
+    blocks of one knot or none."""
     words = block_words(SOUND)
-    ones = {fault.spot: fault for fault in all_faults() if fault.number == 1}
-    others = [fault for fault in all_faults() if fault.number != 1]
+    ones = {fault.spot: fault for fault in all_faults() if fault.number <= 1}
+    others = [fault for fault in all_faults() if fault.number > 1]
     for fault in (*ones.values(), *others):
         yield faulty(words, [fault])
     lone = block_words([(9, (5, -3))])
@@ -61,12 +63,22 @@ def faulty_blocks():
         yield packed(faulty_words)
 
 
+def blocks_with_readings():
+    """Those that the replay script reads; the longest input; longer ones, one of which read refuses with 12."""
+    longest = greatest_block()
+    of_limit = [(0, longest), (1, longest + b"\0"), (1, greatest_block(more=1))]
+    for number, block in (*tried_blocks(), *of_limit):
+        expected = (f"refused {number}\n",) if number else ("0 ", "refused 8\n")
+        hold(report_of(block).startswith(expected), "the report of", block.hex())
+        yield block
+
+
 def stored_reports():
     """Blocks and their reports; every number that a report can have is among them, twice at least."""
-    blocks = [*blocks_at_limits(), *blocks_by_chance(), *faulty_blocks()]
+    blocks = [*blocks_at_limits(), *blocks_by_chance(), *faulty_blocks(), *blocks_with_readings()]
     stored = [(block, report_of(block)) for block in blocks]
     numbers = Counter(report for _, report in stored)
-    for number in (1, 2, 4, 5, 6, 8):
+    for number in (1, 2, 4, 5, 6, 8, 12):
         hold(numbers[f"refused {number}\n"] >= 2, "too few reports of", number)
-    hold(max(map(len, blocks)) == BLOCK_MAX + 4, "the longest stored block")
+    hold(max(map(len, blocks)) == INPUT_MAX + 4, "the longest stored block")
     return stored

@@ -11,6 +11,10 @@ from stored.parts.lines import lines_passed_over, long_lines, the_last_line, unr
 from stored.parts.queries import (
     all_pairs_and_gaps, all_ranges, all_ranges_to_the_limits, around_knots, known_results, queries_of_few_knots, refused_queries,
 )
+from stored.parts.readings import (
+    bits_of_readings, causes_of_views, chosen_knots, forms_of_views, full_blocks, operators_answers, products,
+    readings_by_chance_tried, readings_of_every_count, strides_and_indices,
+)
 from stored.replay_lines import answers_to
 from stored.transcript import Transcript
 
@@ -41,6 +45,16 @@ PARTS = [
     a_flat_reel,
     all_ranges_to_the_limits,
     long_lines,
+    readings_of_every_count,
+    operators_answers,
+    strides_and_indices,
+    products,
+    chosen_knots,
+    causes_of_views,
+    bits_of_readings,
+    forms_of_views,
+    readings_by_chance_tried,
+    full_blocks,
     the_last_line,
 ]
 

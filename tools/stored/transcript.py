@@ -3,8 +3,9 @@ from functools import cache
 
 from document.block import block_of, knots_of
 from document.hold import hold
+from document.readings import hold_rewritten
 from document.reel import Reel, hold_standing
-from stored.replay_lines import LENT, answer_to, hex_of, line_for, line_of
+from stored.replay_lines import LENT, answer_to, hex_of, line_for, line_of, line_of_shown, line_of_view
 
 
 @cache
@@ -12,12 +13,25 @@ def hold_written_and_read(knots):
     hold(tuple(knots_of(block_of(knots))) == knots, "read(write(reel)) of", knots)
 
 
+def accepted_blocks(line, answer):
+    """The blocks of a line that read accepts."""
+    name, *fields = line.split(" ")
+    match name:
+        case "read" if answer == "accepted":
+            return fields
+        case "same" if answer in ("yes", "no"):
+            return fields
+        case "view" | "viewat" if answer.startswith(("view", "reading", "past")):
+            return fields[:1]
+    return []
+
+
 class Transcript:
     """Calls on one reel that starts empty, each held against what is known of it before it is put down."""
 
     def __init__(self):
         self.reel, self.lines, self.answers = Reel(), [], []
-        self.round_trips, self.unseen = 0, 0
+        self.round_trips, self.unseen, self.turn = 0, 0, 0
 
     def passed_over(self, line):
         hold(answer_to(line.encode(), self.reel) is None, "not passed over:", line)
@@ -29,6 +43,7 @@ class Transcript:
         hold(expected in (None, answer), line[:200], "answers", answer[:200], "and not", expected)
         self.lines += [line, f"= {answer}"]
         self.answers.append(answer)
+        self.turn += 1
         hold(answer == "accepted" or self.reel.knots == before, "the reel changes at", line)
         hold_standing(tuple(self.reel.knots))
         self.hold_round_trips(line, answer)
@@ -36,14 +51,13 @@ class Transcript:
             self.look_now_and_then()
 
     def hold_round_trips(self, line, answer):
-        """read(write(reel)) is the reel after every call; write(read(block)) is the block, of every accepted one."""
+        """read(write(reel)) is the reel after every call; write(read(block)) is the block, of every accepted one of
+        edition 1, and of edition 2 what is left of it without its readings."""
         hold_written_and_read(tuple(self.reel.knots))
         self.round_trips += 1
-        name, *blocks = line.split(" ")
-        if (name == "read" and answer == "accepted") or (name == "same" and answer in ("yes", "no")):
-            for block in map(bytes.fromhex, blocks):
-                hold(block_of(knots_of(block)) == block, "write(read(block)) of", line)
-                self.round_trips += 1
+        for block in accepted_blocks(line, answer):
+            hold_rewritten(bytes.fromhex(block))
+            self.round_trips += 1
 
     def look_now_and_then(self):
         """After every fifth call that changes nothing, a write shows that nothing has changed."""
@@ -51,11 +65,36 @@ class Transcript:
         length = len(block_of(self.reel.knots))
         if self.unseen >= 5 and length <= 100:
             self.unseen = 0
-            self.write(length + len(self.answers) % 3)
+            self.write(length + self.turn % 3)
 
     def expect(self, number, name, *fields):
         """A call whose refusal, or 0, is known."""
         self.call(line_for(name, *fields), line_of(number))
+
+    def try_block(self, number, block):
+        """A read that is refused with this number, or accepted for 0, and then taken back."""
+        if number:
+            self.expect(number, "read", block)
+        else:
+            self.read_and_take_back(block)
+
+    def read_and_take_back(self, block):
+        """An accepted read, a write that shows what it left, and the reel as it was. To the looks this is one call that
+        changes nothing, so that the lines after it are the same whether a block is accepted or not."""
+        before, turn = self.reel.knots, self.turn
+        self.expect(0, "read", block)
+        self.write(len(block_of(self.reel.knots)))
+        self.hold_knots(*before)
+        self.turn = turn + 1
+        self.look_now_and_then()
+
+    def view(self, shown, block, k, n):
+        """The view of knot k shows these readings, or is refused with this number."""
+        self.call(line_for("view", block, k, n), line_of_view(shown))
+
+    def view_at(self, shown, block, k, n, i):
+        """The i-th of them is the one in this list, or there is none; or the view is refused with this number."""
+        self.call(line_for("viewat", block, k, n, i), line_of_shown(shown))
 
     def unreadable(self, *lines):
         for line in lines:

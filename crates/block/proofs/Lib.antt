@@ -6,3 +6,5 @@ pub mod Reading
 pub mod ReadBack
 pub mod Written
 pub mod RoundTrips
+pub mod Operators
+pub mod View

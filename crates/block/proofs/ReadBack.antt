@@ -18,7 +18,7 @@ use Rattle.scans.specs.RefusalTable.{positionCauses}
 use Rattle.scans.proofs.Causes.{Quiet}
 use Rattle.block.specs.Fields.{kind, position, grade, knotSpare, knotWord, payload, coefficientWord, wordsBefore, endWord}
 use Rattle.block.specs.Bytes.{Below}
-use Rattle.block.specs.Block.{scanWords, knotsWords}
+use Rattle.block.specs.Block.{plainEdition, scanWords, knotsWords}
 use Rattle.block.specs.Reading.{coefficientCauses, scanFrom, knotsCauses, knotsFrom}
 use Rattle.block.proofs.Fields.{knot-kind, knot-position, knot-grade, knot-spare, twos-below, coefficient-kind, coefficient-payload, end-kind}
 use Rattle.block.proofs.Fields.{end-before}
@@ -70,30 +70,31 @@ module _ {last : Option Scan} (s : Scan) (f : Fit last s) (ws : List ℕ) where
   after-back : drop (grade (knotOf s) + 1) (others s ws) ≡ ws
   after-back = drop-at (map coefficientWord (s .coefficients)) ws (grade (knotOf s) + 1) words-back
 
-  knot-quiet : (b n : ℕ) → Quiet (knotsCauses b n (some s) ws) → Quiet (knotsCauses b (suc n) last (knotOf s ∷ others s ws))
+  knot-quiet : (b n : ℕ) → Quiet (knotsCauses plainEdition b n (some s) ws) → Quiet (knotsCauses plainEdition b (suc n) last (knotOf s ∷ others s ws))
   knot-quiet b n q =
-      untaken b n last (knotOf s) (others s ws)
+      untaken plainEdition b n last (knotOf s) (others s ws)
       (both (eq-eqb (kind (knotOf s)) 1 (knot-kind (s .position) (Scan·grade s) near low))
       (eq-eqb (knotSpare (knotOf s)) 0 (knot-spare (s .position) (Scan·grade s) near low)))
       (subst (λ x. Quiet (positionCauses last x)) (sym position-back) (f .placed))
       (subst (λ x. Quiet (coefficientCauses x (others s ws))) (sym length-back) (coefficients-quiet (s .coefficients) ws))
       (ap (follows last) scan-back ∙ f .size)
-      (subst₂ (λ x us. Quiet (knotsCauses b n (some x) us)) (sym scan-back) (sym after-back) q)
+      (subst₂ (λ x us. Quiet (knotsCauses plainEdition b n (some x) us)) (sym scan-back) (sym after-back) q)
 
 pub knots-quiet : (b : ℕ) → b < 2 ^ 30 → (last : Option Scan) (scans : List Scan) → Chain last scans →
-    Quiet (knotsCauses b (length scans) last (knotsWords scans ++ endWord b ∷ []))
+    Quiet (knotsCauses plainEdition b (length scans) last (knotsWords scans ++ endWord b ∷ []))
 knots-quiet b h last [] c = (ap not (both (eq-eqb (kind (endWord b)) 3 (end-kind b h)) (eq-eqb (wordsBefore (endWord b)) b (end-before b h))), tt)
 knots-quiet b h last (s ∷ scans) c =
-    subst (λ ws. Quiet (knotsCauses b (suc (length scans)) last (knotOf s ∷ ws)))
+    subst (λ ws. Quiet (knotsCauses plainEdition b (suc (length scans)) last (knotOf s ∷ ws)))
     (sym (append-assoc (map coefficientWord (s .coefficients)) (knotsWords scans) (endWord b ∷ [])))
     (knot-quiet s (c .0) (knotsWords scans ++ endWord b ∷ []) b (length scans) (knots-quiet b h (some s) scans (c .1)))
 
-pub knots-back : (last : Option Scan) (scans : List Scan) (ws : List ℕ) → Chain last scans → knotsFrom (length scans) (knotsWords scans ++ ws) ≡ scans
+pub knots-back : (last : Option Scan) (scans : List Scan) (ws : List ℕ) → Chain last scans →
+    knotsFrom plainEdition (length scans) (knotsWords scans ++ ws) ≡ scans
 knots-back last [] ws c = refl
 knots-back last (s ∷ scans) ws c =
     let us : List ℕ = knotsWords scans ++ ws in
-    ap (λ vs. knotsFrom (suc (length scans)) (knotOf s ∷ vs)) (append-assoc (map coefficientWord (s .coefficients)) (knotsWords scans) ws) ∙
-    ap₂ (λ t ts. t ∷ ts) (scan-back s (c .0) us) (ap (knotsFrom (length scans)) (after-back s (c .0) us) ∙ knots-back (some s) scans ws (c .1))
+    ap (λ vs. knotsFrom plainEdition (suc (length scans)) (knotOf s ∷ vs)) (append-assoc (map coefficientWord (s .coefficients)) (knotsWords scans) ws) ∙
+    ap₂ (λ t ts. t ∷ ts) (scan-back s (c .0) us) (ap (knotsFrom plainEdition (length scans)) (after-back s (c .0) us) ∙ knots-back (some s) scans ws (c .1))
 
 -- every word has 32 bits
 coefficients-below : (C : List ℤ) → Below (2 ^ 32) (map coefficientWord C)

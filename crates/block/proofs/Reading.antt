@@ -7,7 +7,7 @@ use mathlib.Core.Path.{_≡_, refl, sym, _∙_, ap, subst}
 use Prim.Native.Nat.{ℕ, zero, suc, _+_, _%_, _≤_}
 use native.Mathlib.Omega.{arith}
 use lib.Dec.{eqb, ltb}
-use lib.ListN.{length, take, drop, length-map}
+use lib.ListN.{length, take, length-map}
 use lib.Seq.{length-take-le}
 use Rattle.integer.proofs.Tests.{both-first, both-second}
 use Rattle.rounding.specs.Limits.{knotsMax}
@@ -17,47 +17,49 @@ use Rattle.scans.specs.RefusalTable.{Cause, first, positionCauses}
 use Rattle.scans.proofs.Causes.{Quiet, quiet, quiet-both, quiet-left, quiet-right, neither, Placed, placed}
 use Rattle.block.specs.Fields.{kind, knotCount, edition, headerSpare, position, grade, knotSpare, payload}
 use Rattle.block.specs.Bytes.{words}
-use Rattle.block.specs.Block.{editionNow}
-use Rattle.block.specs.Reading.{isHeader, isKnot, lengthCauses, headerCauses, knotCauses, coefficientCauses, scanFrom, knotsCauses, wordsCauses}
-use Rattle.block.specs.Reading.{blockCauses}
-use Rattle.block.proofs.Steps.{sizeOn, afterWord, in-order}
+use Rattle.block.specs.Reading.{isEdition, isHeader, isKnot, readingWords, afterReadings, lengthCauses, headerCauses, knotCauses, coefficientCauses}
+use Rattle.block.specs.Reading.{readingCauses, scanFrom, behind, knotsCauses, wordsCauses, blockCauses}
+use Rattle.block.proofs.Steps.{readingsOn, sizeOn, afterWord, in-order}
 
 -- ---- words
 
 pub record Header (w : ℕ) : Type 0 where
   pub kindIs : kind w ≡ 0
-  pub editionIs : edition w ≡ editionNow
+  pub editionIs : isEdition (edition w) ≡ true
   pub spareIs : headerSpare w ≡ 0
   pub count : knotCount w ≤ knotsMax
 
 header : (w : ℕ) → Quiet (headerCauses w) → Header w
 header w q =
     let form : isHeader w ≡ true = not-false (isHeader w) (q .0) in
-    let later : (eqb (edition w) editionNow && eqb (headerSpare w) 0) ≡ true = both-second (eqb (kind w) 0) _ form in
+    let later : (isEdition (edition w) && eqb (headerSpare w) 0) ≡ true = both-second (eqb (kind w) 0) _ form in
     record {
       kindIs = eqb-true (kind w) 0 (both-first (eqb (kind w) 0) _ form);
-      editionIs = eqb-true (edition w) editionNow (both-first (eqb (edition w) editionNow) _ later);
-      spareIs = eqb-true (headerSpare w) 0 (both-second (eqb (edition w) editionNow) _ later);
+      editionIs = both-first (isEdition (edition w)) _ later;
+      spareIs = eqb-true (headerSpare w) 0 (both-second (isEdition (edition w)) _ later);
       count = ltb-false knotsMax (knotCount w) (q .1 .0);
     }
 
--- a knot with n more to come after it, and the words after its own
-pub record Taken (before n : ℕ) (last : Option Scan) (w : ℕ) (ws : List ℕ) : Type 0 where
+-- a knot with n more to come after it, and the words after its own, in a block of edition e
+pub record Taken (e before n : ℕ) (last : Option Scan) (w : ℕ) (ws : List ℕ) : Type 0 where
   pub kindIs : kind w ≡ 1
   pub spareIs : knotSpare w ≡ 0
   pub place : Placed last (position w)
   pub coefficients : Quiet (coefficientCauses (grade w + 1) ws)
   pub size : follows last (scanFrom w ws) ≡ true
-  pub later : Quiet (knotsCauses before n (some (scanFrom w ws)) (drop (grade w + 1) ws))
+  pub readings : Quiet (readingCauses 0 (readingWords e (behind w ws)))
+  pub later : Quiet (knotsCauses e before n (some (scanFrom w ws)) (afterReadings e (behind w ws)))
 
-pub taken : (before n : ℕ) (last : Option Scan) (w : ℕ) (ws : List ℕ) → Quiet (knotsCauses before (suc n) last (w ∷ ws)) → Taken before n last w ws
-taken before n last w ws q =
+pub taken : (e before n : ℕ) (last : Option Scan) (w : ℕ) (ws : List ℕ) → Quiet (knotsCauses e before (suc n) last (w ∷ ws)) → Taken e before n last w ws
+taken e before n last w ws q =
     let cs : List Cause = coefficientCauses (grade w + 1) ws in
-    let rest : List Cause = sizeOn before n last (position w) (grade w) ws in
-    let all : Quiet (knotCauses last w ++ afterWord before n last (position w) (grade w) ws) = subst Quiet (in-order before n last w ws) q in
-    let word : Quiet (knotCauses last w) = quiet-left (knotCauses last w) (afterWord before n last (position w) (grade w) ws) all in
+    let rest : List Cause = sizeOn e before n last (position w) (grade w) ws in
+    let all : Quiet (knotCauses last w ++ afterWord e before n last (position w) (grade w) ws) = subst Quiet (in-order e before n last w ws) q in
+    let word : Quiet (knotCauses last w) = quiet-left (knotCauses last w) (afterWord e before n last (position w) (grade w) ws) all in
     let after : Quiet (cs ++ rest) = quiet-right (knotCauses last w) (cs ++ rest) all in
     let sized : Quiet rest = quiet-right cs rest after in
+    let these : List Cause = readingCauses 0 (readingWords e (behind w ws)) in
+    let next : List Cause = knotsCauses e before n (some (scanFrom w ws)) (afterReadings e (behind w ws)) in
     let form : isKnot w ≡ true = not-false (isKnot w) (word .0) in
     record {
       kindIs = eqb-true (kind w) 1 (both-first (eqb (kind w) 1) _ form);
@@ -65,17 +67,18 @@ taken before n last w ws q =
       place = placed last (position w) (word .1 .0) (word .1 .1 .0);
       coefficients = quiet-left cs rest after;
       size = not-false (follows last (scanFrom w ws)) (sized .0);
-      later = sized .1;
+      readings = quiet-left these next (sized .1);
+      later = quiet-right these next (sized .1);
     }
 
 -- and back
-pub untaken : (before n : ℕ) (last : Option Scan) (w : ℕ) (ws : List ℕ) → isKnot w ≡ true → Quiet (positionCauses last (position w)) →
-    Quiet (coefficientCauses (grade w + 1) ws) → follows last (scanFrom w ws) ≡ true →
-    Quiet (knotsCauses before n (some (scanFrom w ws)) (drop (grade w + 1) ws)) → Quiet (knotsCauses before (suc n) last (w ∷ ws))
-untaken before n last w ws form place coefficients size later =
-    subst Quiet (sym (in-order before n last w ws))
-    (quiet-both (knotCauses last w) (afterWord before n last (position w) (grade w) ws) (ap not form, place)
-    (quiet-both (coefficientCauses (grade w + 1) ws) (sizeOn before n last (position w) (grade w) ws) coefficients (ap not size, later)))
+pub untaken : (e before n : ℕ) (last : Option Scan) (w : ℕ) (ws : List ℕ) → isKnot w ≡ true → Quiet (positionCauses last (position w)) →
+    Quiet (coefficientCauses (grade w + 1) ws) → follows last (scanFrom w ws) ≡ true → Quiet (readingsOn e before n (scanFrom w ws) (behind w ws)) →
+    Quiet (knotsCauses e before (suc n) last (w ∷ ws))
+untaken e before n last w ws form place coefficients size later =
+    subst Quiet (sym (in-order e before n last w ws))
+    (quiet-both (knotCauses last w) (afterWord e before n last (position w) (grade w) ws) (ap not form, place)
+    (quiet-both (coefficientCauses (grade w + 1) ws) (sizeOn e before n last (position w) (grade w) ws) coefficients (ap not size, later)))
 
 -- its coefficient words are there, so its list has the grade that the word says
 coefficients-there : (n : ℕ) (ws : List ℕ) → Quiet (coefficientCauses n ws) → n ≤ length ws
@@ -93,12 +96,12 @@ pub record Accepted (bs : List ℕ) : Type 0 where
   pub wordsAre : words bs ≡ head ∷ others
   pub bytesFit : length bs % 4 ≡ 0
   pub header : Header head
-  pub knots : Quiet (knotsCauses (length others) (knotCount head) none others)
+  pub knots : Quiet (knotsCauses (edition head) (length others) (knotCount head) none others)
 
 accepted-words : (bs ws : List ℕ) → words bs ≡ ws → length bs % 4 ≡ 0 → Quiet (wordsCauses ws) → Accepted bs
 accepted-words bs [] e f q = absurd (true≢false (q .0))
 accepted-words bs (w ∷ ws) e f q =
-    let knots : List Cause = knotsCauses (length ws) (knotCount w) none ws in
+    let knots : List Cause = knotsCauses (edition w) (length ws) (knotCount w) none ws in
     record {
       head = w;
       others = ws;

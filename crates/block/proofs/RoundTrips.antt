@@ -8,7 +8,7 @@ use Prim.Native.Nat.{ℕ, zero, suc, _+_, _*_, _%_, _^_, _≤_, _<_}
 use native.Mathlib.Nat.{mul-mod-right}
 use native.Mathlib.Omega.{arith}
 use lib.Dec.{eqb}
-use lib.ListN.{length, take, drop, length-append, take-append-drop}
+use lib.ListN.{length, take, getD, length-append, take-append-drop}
 use Rattle.integer.proofs.Tests.{both, both-first, both-second}
 use Rattle.rounding.specs.Limits.{knotsMax}
 use Rattle.scans.specs.Scan.{Scan, grade as Scan·grade}
@@ -18,9 +18,9 @@ use Rattle.scans.proofs.Causes.{Quiet, silent, quiet-both}
 use Rattle.block.specs.Fields.{kind, knotCount, edition, headerSpare, headerWord, position, grade, knotWord, payload, coefficientWord, wordsBefore}
 use Rattle.block.specs.Fields.{endWord}
 use Rattle.block.specs.Bytes.{words, bytes, Below}
-use Rattle.block.specs.Block.{editionNow, scanWords, knotsWords, openWords, blockWords, block}
-use Rattle.block.specs.Reading.{isCoefficient, isEnd, lengthCauses, headerCauses, coefficientCauses, endCauses, scanFrom, knotsCauses, wordsCauses}
-use Rattle.block.specs.Reading.{blockCauses, knotsFrom, listOfWords, listOf}
+use Rattle.block.specs.Block.{plainEdition, scanWords, knotsWords, openWords, blockWords, block}
+use Rattle.block.specs.Reading.{isEdition, isCoefficient, isEnd, afterReadings, lengthCauses, headerCauses, coefficientCauses, endCauses, scanFrom}
+use Rattle.block.specs.Reading.{behind, knotsCauses, wordsCauses, blockCauses, editionOf, knotsFrom, listOfWords, listOf}
 use Rattle.block.proofs.Fields.{header-count, header-edition, header-spare, header-kind, header-again, knot-again, coefficient-again, end-again}
 use Rattle.block.proofs.Bytes.{below-both, bytes-again, length-bytes, words-again}
 use Rattle.block.proofs.Reading.{Header, Taken, taken, read-grade, Accepted, accepted}
@@ -37,11 +37,10 @@ coefficients-again (suc n) (w ∷ ws) q =
     ap₂ (λ u us. u ∷ us) (coefficient-again w (eqb-true (kind w) 2 (not-false (isCoefficient w) (q .0)))) (coefficients-again n ws (q .1))
 
 -- each knot's words, then those after them
-scan-again : {b n : ℕ} {last : Option Scan} (w : ℕ) (ws : List ℕ) → Taken b n last w ws → scanWords (scanFrom w ws) ++ drop (grade w + 1) ws ≡ w ∷ ws
+pub scan-again : {e b n : ℕ} {last : Option Scan} (w : ℕ) (ws : List ℕ) → Taken e b n last w ws → scanWords (scanFrom w ws) ≡ w ∷ take (grade w + 1) ws
 scan-again w ws t =
     let same : Scan·grade (scanFrom w ws) ≡ grade w = omega (arith, read-grade w ws (t .coefficients)) in
-    ap₂ (λ u us. u ∷ us) (ap (knotWord (position w)) same ∙ knot-again w (t .kindIs) (t .spareIs))
-    (ap (λ us. us ++ drop (grade w + 1) ws) (coefficients-again (grade w + 1) ws (t .coefficients)) ∙ take-append-drop (grade w + 1) ws)
+    ap₂ (λ u us. u ∷ us) (ap (knotWord (position w)) same ∙ knot-again w (t .kindIs) (t .spareIs)) (coefficients-again (grade w + 1) ws (t .coefficients))
 
 end-word-again : (b : ℕ) (ws : List ℕ) → Quiet (endCauses b ws) → endWord b ∷ [] ≡ ws
 end-word-again b [] q = absurd (true≢false (q .0))
@@ -52,50 +51,58 @@ end-word-again b (w ∷ []) q =
     ap (λ u. u ∷ []) (ap endWord (sym beforeIs) ∙ end-again w kindIs)
 end-word-again b (w ∷ v ∷ ws) q = absurd (true≢false (q .0))
 
-knots-again : (b n : ℕ) (last : Option Scan) (ws : List ℕ) → Quiet (knotsCauses b n last ws) → knotsWords (knotsFrom n ws) ++ endWord b ∷ [] ≡ ws
+knots-again : (b n : ℕ) (last : Option Scan) (ws : List ℕ) → Quiet (knotsCauses plainEdition b n last ws) →
+    knotsWords (knotsFrom plainEdition n ws) ++ endWord b ∷ [] ≡ ws
 knots-again b zero last ws q = end-word-again b ws q
 knots-again b (suc n) last [] q = absurd (true≢false (q .0))
 knots-again b (suc n) last (w ∷ ws) q =
-    let t : Taken b n last w ws = taken b n last w ws q in
-    let ih : knotsWords (knotsFrom n (drop (grade w + 1) ws)) ++ endWord b ∷ [] ≡ drop (grade w + 1) ws =
-    knots-again b n (some (scanFrom w ws)) (drop (grade w + 1) ws) (t .later) in
-    append-assoc (scanWords (scanFrom w ws)) (knotsWords (knotsFrom n (drop (grade w + 1) ws))) (endWord b ∷ []) ∙
-    ap (λ us. scanWords (scanFrom w ws) ++ us) ih ∙ scan-again w ws t
+    let t : Taken plainEdition b n last w ws = taken plainEdition b n last w ws q in
+    let ih : knotsWords (knotsFrom plainEdition n (behind w ws)) ++ endWord b ∷ [] ≡ behind w ws =
+    knots-again b n (some (scanFrom w ws)) (behind w ws) (t .later) in
+    append-assoc (scanWords (scanFrom w ws)) (knotsWords (knotsFrom plainEdition n (behind w ws))) (endWord b ∷ []) ∙
+    ap₂ (λ us vs. us ++ vs) (scan-again w ws t) ih ∙ ap (λ us. w ∷ us) (take-append-drop (grade w + 1) ws)
 
-knots-count : (b n : ℕ) (last : Option Scan) (ws : List ℕ) → Quiet (knotsCauses b n last ws) → length (knotsFrom n ws) ≡ n
-knots-count b zero last ws q = refl
-knots-count b (suc n) last [] q = absurd (true≢false (q .0))
-knots-count b (suc n) last (w ∷ ws) q = ap suc (knots-count b n (some (scanFrom w ws)) (drop (grade w + 1) ws) (taken b n last w ws q .later))
+pub knots-count : (e b n : ℕ) (last : Option Scan) (ws : List ℕ) → Quiet (knotsCauses e b n last ws) → length (knotsFrom e n ws) ≡ n
+knots-count e b zero last ws q = refl
+knots-count e b (suc n) last [] q = absurd (true≢false (q .0))
+knots-count e b (suc n) last (w ∷ ws) q =
+    ap suc (knots-count e b n (some (scanFrom w ws)) (afterReadings e (behind w ws)) (taken e b n last w ws q .later))
 
-block-again : (w : ℕ) (ws : List ℕ) → Header w → Quiet (knotsCauses (length ws) (knotCount w) none ws) → blockWords (knotsFrom (knotCount w) ws) ≡ w ∷ ws
-block-again w ws h q =
-    let scans : List Scan = knotsFrom (knotCount w) ws in
+block-again : (w : ℕ) (ws : List ℕ) → Header w → edition w ≡ plainEdition → Quiet (knotsCauses plainEdition (length ws) (knotCount w) none ws) →
+    blockWords (knotsFrom plainEdition (knotCount w) ws) ≡ w ∷ ws
+block-again w ws h plain q =
+    let scans : List Scan = knotsFrom plainEdition (knotCount w) ws in
     let again : knotsWords scans ++ endWord (length ws) ∷ [] ≡ ws = knots-again (length ws) (knotCount w) none ws q in
-    let count : length scans ≡ knotCount w = knots-count (length ws) (knotCount w) none ws q in
+    let count : length scans ≡ knotCount w = knots-count plainEdition (length ws) (knotCount w) none ws q in
     let long : length (openWords scans) ≡ length ws = omega (arith, length-append (knotsWords scans) (endWord (length ws) ∷ []), ap length again) in
-    ap₂ (λ u us. u ∷ us) (ap₂ headerWord count (sym (h .editionIs)) ∙ header-again w (h .kindIs) (h .spareIs))
+    ap₂ (λ u us. u ∷ us) (ap₂ headerWord count (sym plain) ∙ header-again w (h .kindIs) (h .spareIs))
     (ap (λ n. knotsWords scans ++ endWord n ∷ []) long ∙ again)
 
--- the block of an accepted block's list is that block
-pub accepted-written : (bs : List ℕ) → Below (2 ^ 8) bs → first (blockCauses bs) ≡ none → block (listOf bs) ≡ bs
+-- the block of the list of an accepted block of edition 1 is that block
+pub accepted-written : (bs : List ℕ) → Below (2 ^ 8) bs → first (blockCauses bs) ≡ none → editionOf bs ≡ plainEdition → block (listOf bs) ≡ bs
 unfolding block listOf
-accepted-written bs h e =
-    let a : Accepted bs = accepted bs e in
-    ap (λ ws. bytes (blockWords (listOfWords ws))) (a .wordsAre) ∙ ap bytes (block-again (a .head) (a .others) (a .header) (a .knots) ∙ sym (a .wordsAre)) ∙
-    bytes-again bs (a .bytesFit) h
+accepted-written bs h q plain =
+    let a : Accepted bs = accepted bs q in
+    let e : edition (a .head) ≡ plainEdition = sym (ap (λ ws. edition (getD ws 0 0)) (a .wordsAre)) ∙ plain in
+    let w : ℕ = a .head in
+    let ws : List ℕ = a .others in
+    let again : blockWords (knotsFrom plainEdition (knotCount w) ws) ≡ w ∷ ws =
+    block-again w ws (a .header) e (subst (λ n. Quiet (knotsCauses n (length ws) (knotCount w) none ws)) e (a .knots)) in
+    ap (λ us. bytes (blockWords (listOfWords us))) (a .wordsAre) ∙ ap (λ n. bytes (blockWords (knotsFrom n (knotCount w) ws))) e ∙
+    ap bytes (again ∙ sym (a .wordsAre)) ∙ bytes-again bs (a .bytesFit) h
 
 -- ---- a written block read back
 
 length-quiet : (n : ℕ) → 2 ≤ n → Quiet (lengthCauses (4 * n))
 length-quiet n h = (rw (eq-eqb (4 * n % 4) 0 (mul-mod-right 4 n), le-ltb (4 * n) 8 (omega arith)), tt)
 
-header-quiet : (n : ℕ) → n ≤ knotsMax → Quiet (headerCauses (headerWord n editionNow))
+header-quiet : (n : ℕ) → n ≤ knotsMax → Quiet (headerCauses (headerWord n plainEdition))
 header-quiet n h =
-    let w : ℕ = headerWord n editionNow in
-    let count : knotCount w ≡ n = header-count n editionNow (omega arith) in (
-      ap not (both (eq-eqb (kind w) 0 (header-kind n editionNow (omega arith) (omega arith)))
-          (both (eq-eqb (edition w) editionNow (header-edition n editionNow (omega arith) (omega arith)))
-          (eq-eqb (headerSpare w) 0 (header-spare n editionNow (omega arith) (omega arith))))),
+    let w : ℕ = headerWord n plainEdition in
+    let count : knotCount w ≡ n = header-count n plainEdition (omega arith) in (
+      ap not (both (eq-eqb (kind w) 0 (header-kind n plainEdition (omega arith) (omega arith)))
+          (both (ap isEdition (header-edition n plainEdition (omega arith) (omega arith)))
+          (eq-eqb (headerSpare w) 0 (header-spare n plainEdition (omega arith) (omega arith))))),
       (le-ltb knotsMax (knotCount w) (rw count h), tt),
     )
 
@@ -106,16 +113,20 @@ module _ (scans : List Scan) (st : Standing scans) where
   after-length : length (knotsWords scans ++ endWord (length (openWords scans)) ∷ []) ≡ length (openWords scans)
   after-length = omega (arith, length-append (knotsWords scans) (endWord (length (openWords scans)) ∷ []))
 
-  count-back : knotCount (headerWord (length scans) editionNow) ≡ length scans
-  count-back = header-count (length scans) editionNow (omega (arith, st .count))
+  count-back : knotCount (headerWord (length scans) plainEdition) ≡ length scans
+  count-back = header-count (length scans) plainEdition (omega (arith, st .count))
+
+  edition-back : edition (headerWord (length scans) plainEdition) ≡ plainEdition
+  edition-back = header-edition (length scans) plainEdition (omega (arith, st .count)) (omega arith)
 
   words-quiet : Quiet (wordsCauses (blockWords scans))
   words-quiet =
-      let w : ℕ = headerWord (length scans) editionNow in
+      let w : ℕ = headerWord (length scans) plainEdition in
       let ws : List ℕ = knotsWords scans ++ endWord (length (openWords scans)) ∷ [] in
-      quiet-both (headerCauses w) (knotsCauses (length ws) (knotCount w) none ws) (header-quiet (length scans) (st .count))
-      (subst₂ (λ b n. Quiet (knotsCauses b n none ws)) (sym after-length) (sym count-back)
-      (knots-quiet (length (openWords scans)) open-length none scans (chain scans st)))
+      quiet-both (headerCauses w) (knotsCauses (edition w) (length ws) (knotCount w) none ws) (header-quiet (length scans) (st .count))
+      (subst (λ e. Quiet (knotsCauses e (length ws) (knotCount w) none ws)) (sym edition-back)
+      (subst₂ (λ b n. Quiet (knotsCauses plainEdition b n none ws)) (sym after-length) (sym count-back)
+      (knots-quiet (length (openWords scans)) open-length none scans (chain scans st))))
 
   words-read : words (bytes (blockWords scans)) ≡ blockWords scans
   words-read =
@@ -136,4 +147,5 @@ pub written-list : (scans : List Scan) → Standing scans → listOf (block scan
 unfolding block listOf
 written-list scans st =
     let ws : List ℕ = endWord (length (openWords scans)) ∷ [] in
-    ap listOfWords (words-read scans st) ∙ ap (λ n. knotsFrom n (knotsWords scans ++ ws)) (count-back scans st) ∙ knots-back none scans ws (chain scans st)
+    ap listOfWords (words-read scans st) ∙ ap₂ (λ e n. knotsFrom e n (knotsWords scans ++ ws)) (edition-back scans st) (count-back scans st) ∙
+    knots-back none scans ws (chain scans st)

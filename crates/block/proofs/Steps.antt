@@ -1,9 +1,9 @@
 -- Reading, in word order: which fault is found first, and what reading comes to next; at word i of a block that has the words ws, whether
 -- there is such a word or not.
-use mathlib.Core.Bool.{false}
+use mathlib.Core.Bool.{true, false, true≢false}
 use mathlib.Core.List.{List, [], _∷_, _++_, map, append-assoc}
 use mathlib.Core.Option.{Option, none, some, Option·some-ne-none}
-use mathlib.Core.Path.{_≡_, refl, _∙_, ap}
+use mathlib.Core.Path.{_≡_, refl, sym, _∙_, ap}
 use Prim.Native.Nat.{ℕ, zero, suc, _+_, _<_}
 use native.Mathlib.Omega.{arith}
 use borrow.Author.Tests.{eq-eqb, ne-eqb}
@@ -12,7 +12,9 @@ use Rattle.scans.specs.Scan.{Scan, scanOf}
 use Rattle.scans.specs.RefusalTable.{Cause, first, sizeCauses}
 use Rattle.scans.proofs.Causes.{first-found, first-later}
 use Rattle.block.specs.Fields.{kind, position, grade, payload}
-use Rattle.block.specs.Reading.{isHeader, isKnot, headerCauses, knotCauses, coefficientCauses, scanFrom, knotsCauses, knotsFrom}
+use Rattle.block.specs.Block.{readingsEdition}
+use Rattle.block.specs.Reading.{isHeader, isKnot, isReading, clearReading, leadingReadings, readingWords, afterReadings, headerCauses, knotCauses}
+use Rattle.block.specs.Reading.{coefficientCauses, readingCauses, scanFrom, behind, knotsCauses, knotsFrom}
 
 -- ---- the form of a word comes first: 1, whatever knot count or position its bits say
 
@@ -22,54 +24,64 @@ header-form w e = rw e refl
 pub knot-form : (last : Option Scan) (w : ℕ) → isKnot w ≡ false → first (knotCauses last w) ≡ some 1
 knot-form last w e = rw e refl
 
+pub reading-form : (count w : ℕ) (ws : List ℕ) → clearReading w ≡ false → first (readingCauses count (w ∷ ws)) ≡ some 1
+reading-form count w ws e = rw e refl
+
 -- ---- a knot word is due
 
--- what comes after the coefficient words of a knot, x and m being the fields of its word and ws the words after it: its size, and r knots more
-abbrev pub sizeOn : ℕ → ℕ → Option Scan → ℕ → ℕ → List ℕ → List Cause
-sizeOn b r last x m ws =
-    let s = scanOf x (map payload (take (m + 1) ws)) in
-    sizeCauses last s ++ knotsCauses b r (some s) (drop (m + 1) ws)
+-- b words stand before the end word, in a block of edition e; r knots come after the one with the scan s: its readings, and those knots
+module _ (e b r : ℕ) where
+  abbrev pub readingsOn : Scan → List ℕ → List Cause
+  readingsOn s ws = readingCauses 0 (readingWords e ws) ++ knotsCauses e b r (some s) (afterReadings e ws)
 
--- and from its first coefficient word on
-abbrev pub afterWord : ℕ → ℕ → Option Scan → ℕ → ℕ → List ℕ → List Cause
-afterWord b r last x m ws = coefficientCauses (m + 1) ws ++ sizeOn b r last x m ws
+  -- what comes after the coefficient words of a knot, x and m being the fields of its word and ws the words after it: its size, and the rest
+  abbrev pub sizeOn : Option Scan → ℕ → ℕ → List ℕ → List Cause
+  sizeOn last x m ws =
+      let s = scanOf x (map payload (take (m + 1) ws)) in
+      sizeCauses last s ++ readingsOn s (drop (m + 1) ws)
 
--- the causes of a knot, in their order: its word, its coefficient words, its size, and then those of the knots after it
-pub in-order : (b r : ℕ) (last : Option Scan) (w : ℕ) (ws : List ℕ) →
-    knotsCauses b (suc r) last (w ∷ ws) ≡ knotCauses last w ++ afterWord b r last (position w) (grade w) ws
-in-order b r last w ws =
-    let word = knotCauses last w in
-    let coefficients = coefficientCauses (grade w + 1) ws in
-    let size = sizeCauses last (scanFrom w ws) in
-    let rest = knotsCauses b r (some (scanFrom w ws)) (drop (grade w + 1) ws) in
-    append-assoc (word ++ coefficients) size rest ∙ append-assoc word coefficients (size ++ rest)
+  -- and from its first coefficient word on
+  abbrev pub afterWord : Option Scan → ℕ → ℕ → List ℕ → List Cause
+  afterWord last x m ws = coefficientCauses (m + 1) ws ++ sizeOn last x m ws
 
-module _ (last : Option Scan) where
-  pub knot-found : {n : ℕ} (b r : ℕ) (ws : List ℕ) (i : ℕ) → first (knotCauses last (getD ws i 0)) ≡ some n →
-      first (knotsCauses b (suc r) last (drop i ws)) ≡ some n
-  knot-found b r [] zero e = e
-  knot-found b r [] (suc i) e = e
-  knot-found b r (w ∷ ws) zero e = ap first (in-order b r last w ws) ∙ first-found (knotCauses last w) (afterWord b r last (position w) (grade w) ws) e
-  knot-found b r (w ∷ ws) (suc i) e = knot-found b r ws i e
+  -- the causes of a knot, in their order: its word, its coefficient words, its size, its readings, and then those of the knots after it
+  pub in-order : (last : Option Scan) (w : ℕ) (ws : List ℕ) →
+      knotsCauses e b (suc r) last (w ∷ ws) ≡ knotCauses last w ++ afterWord last (position w) (grade w) ws
+  in-order last w ws =
+      let word = knotCauses last w in
+      let coefficients = coefficientCauses (grade w + 1) ws in
+      let size = sizeCauses last (scanFrom w ws) in
+      let readings = readingCauses 0 (readingWords e (behind w ws)) in
+      let rest = knotsCauses e b r (some (scanFrom w ws)) (afterReadings e (behind w ws)) in
+      append-assoc (word ++ coefficients ++ size) readings rest ∙ append-assoc (word ++ coefficients) size (readings ++ rest) ∙
+      append-assoc word coefficients (size ++ (readings ++ rest))
 
-  -- no fault yet: its coefficient words come, and then its size
-  pub knot-passed : (b r : ℕ) (ws : List ℕ) (i : ℕ) → first (knotCauses last (getD ws i 0)) ≡ none →
-      let w = getD ws i 0 in
-      first (knotsCauses b (suc r) last (drop i ws)) ≡
-      first (afterWord b r last (position w) (grade w) (drop (suc i) ws))
-  knot-passed b r [] zero e = absurd (Option·some-ne-none _ e)
-  knot-passed b r [] (suc i) e = absurd (Option·some-ne-none _ e)
-  knot-passed b r (w ∷ ws) zero e = ap first (in-order b r last w ws) ∙ first-later (knotCauses last w) (afterWord b r last (position w) (grade w) ws) e
-  knot-passed b r (w ∷ ws) (suc i) e = knot-passed b r ws i e
+  module _ (last : Option Scan) where
+    pub knot-found : {n : ℕ} (ws : List ℕ) (i : ℕ) → first (knotCauses last (getD ws i 0)) ≡ some n →
+        first (knotsCauses e b (suc r) last (drop i ws)) ≡ some n
+    knot-found [] zero h = h
+    knot-found [] (suc i) h = h
+    knot-found (w ∷ ws) zero h = ap first (in-order last w ws) ∙ first-found (knotCauses last w) (afterWord last (position w) (grade w) ws) h
+    knot-found (w ∷ ws) (suc i) h = knot-found ws i h
 
-  pub knot-listed : (r : ℕ) (ws : List ℕ) (i : ℕ) → first (knotCauses last (getD ws i 0)) ≡ none →
-      let w = getD ws i 0 in
-      let rest = drop (suc i) ws in
-      knotsFrom (suc r) (drop i ws) ≡ scanFrom w rest ∷ knotsFrom r (drop (grade w + 1) rest)
-  knot-listed r [] zero e = absurd (Option·some-ne-none _ e)
-  knot-listed r [] (suc i) e = absurd (Option·some-ne-none _ e)
-  knot-listed r (w ∷ ws) zero e = refl
-  knot-listed r (w ∷ ws) (suc i) e = knot-listed r ws i e
+    -- no fault yet: its coefficient words come, and then its size
+    pub knot-passed : (ws : List ℕ) (i : ℕ) → first (knotCauses last (getD ws i 0)) ≡ none →
+        let w = getD ws i 0 in
+        first (knotsCauses e b (suc r) last (drop i ws)) ≡
+        first (afterWord last (position w) (grade w) (drop (suc i) ws))
+    knot-passed [] zero h = absurd (Option·some-ne-none _ h)
+    knot-passed [] (suc i) h = absurd (Option·some-ne-none _ h)
+    knot-passed (w ∷ ws) zero h = ap first (in-order last w ws) ∙ first-later (knotCauses last w) (afterWord last (position w) (grade w) ws) h
+    knot-passed (w ∷ ws) (suc i) h = knot-passed ws i h
+
+    pub knot-listed : (ws : List ℕ) (i : ℕ) → first (knotCauses last (getD ws i 0)) ≡ none →
+        let w = getD ws i 0 in
+        let rest = drop (suc i) ws in
+        knotsFrom e (suc r) (drop i ws) ≡ scanFrom w rest ∷ knotsFrom e r (afterReadings e (behind w rest))
+    knot-listed [] zero h = absurd (Option·some-ne-none _ h)
+    knot-listed [] (suc i) h = absurd (Option·some-ne-none _ h)
+    knot-listed (w ∷ ws) zero h = refl
+    knot-listed (w ∷ ws) (suc i) h = knot-listed ws i h
 
 -- ---- a coefficient word is due
 
@@ -89,3 +101,21 @@ pub coefficient-there : (ws : List ℕ) (i : ℕ) → kind (getD ws i 0) ≡ 2 �
 coefficient-there [] i e = absurd (omega arith)
 coefficient-there (w ∷ ws) zero e = omega arith
 coefficient-there (w ∷ ws) (suc i) e = let h = coefficient-there ws i e in omega arith
+
+-- ---- readings may stand here
+
+-- "No other edition carries them"
+pub other-edition : (e : ℕ) (ws : List ℕ) → (e ≡ readingsEdition → ⊥) → readingWords e ws ≡ []
+other-edition e ws d = rw (ne-eqb e readingsEdition d) refl
+
+pub no-reading : (ws : List ℕ) (i : ℕ) → isReading (getD ws i 0) ≡ false → leadingReadings (drop i ws) ≡ []
+no-reading [] zero h = refl
+no-reading [] (suc i) h = refl
+no-reading (w ∷ ws) zero h = rw h refl
+no-reading (w ∷ ws) (suc i) h = no-reading ws i h
+
+pub one-reading : (ws : List ℕ) (i : ℕ) → isReading (getD ws i 0) ≡ true →
+    leadingReadings (drop i ws) ≡ getD ws i 0 ∷ leadingReadings (drop (suc i) ws)
+one-reading [] i h = absurd (true≢false (sym h))
+one-reading (w ∷ ws) zero h = rw h refl
+one-reading (w ∷ ws) (suc i) h = one-reading ws i h

@@ -1,4 +1,4 @@
--- Document 01, "Block": the fields of a word of 32 bits, bit 0 lowest, and the words made of them.
+-- Document 01, "Block", and request 1/14: the fields of a word of 32 bits, bit 0 lowest, and the words made of them.
 use mathlib.Core.Bool.{cond}
 use Prim.Native.Nat.{ℕ, _+_, _-_, _*_, _/_, _%_, _^_}
 use lib.Dec.{ltb}
@@ -57,3 +57,13 @@ wordsBefore w = rest w
 
 abbrev pub endWord : ℕ → ℕ
 endWord n = wordOf 3 n
+
+-- request 1/14, reading, kind 3 with bit 29 set: bits 0 to 15 the reading; the rest, bits 16 to 28, 0
+abbrev pub readingMark : ℕ → ℕ
+readingMark w = rest w / 2 ^ 29
+
+abbrev pub reading : ℕ → ℕ
+reading w = w % 2 ^ 16
+
+abbrev pub readingSpare : ℕ → ℕ
+readingSpare w = w % 2 ^ 29 / 2 ^ 16

@@ -2,3 +2,4 @@ pub mod Fields
 pub mod Bytes
 pub mod Block
 pub mod Reading
+pub mod View

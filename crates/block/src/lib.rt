@@ -1,6 +1,8 @@
-// Blocks: what they are, and that reading and writing undo each other. No functions: definitions in specs/, laws in
-// proofs/; the reader and the writer stand above.
-pub const EDITION: u8 = 1;
+// Blocks: what they are, that reading undoes writing, and writing reading in edition 1; and the readings beside their
+// knots. No functions: definitions in specs/, laws in proofs/; the reader, the writer and the view stand above.
+pub const PLAIN_EDITION: u8 = 1;
 
-// in bytes
-pub const BLOCK_MAX: usize = 4_652;
+pub const READINGS_EDITION: u8 = 2;
+
+// of one that is accepted, in bytes
+pub const BLOCK_MAX: usize = 21_164;

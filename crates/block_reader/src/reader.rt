@@ -1,4 +1,4 @@
-// Reading a block: a knot word, its coefficient words, the next knot; and the first fault ends it.
+// Reading a block: a knot word, its coefficient words, its readings, the next knot; and the first fault ends it.
 ghost use mathlib.Core.Option.{none};
 ghost use mathlib.Core.Path.{_≡_};
 ghost use Prim.Native.Nat.{_≤_};
@@ -6,19 +6,21 @@ ghost use lib.ListN.{length};
 ghost use Rattle.rounding.specs.Limits.{knotsMax};
 ghost use Rattle.scans.specs.RefusalTable.{first};
 ghost use Rattle.block.specs.Bytes.{words};
-ghost use Rattle.block.specs.Block.{block as Block·block};
-ghost use Rattle.block.specs.Reading.{blockCauses, listOf};
+ghost use Rattle.block.specs.Block.{block as Block·block, plainEdition};
+ghost use Rattle.block.specs.Reading.{blockCauses, editionOf, listOf};
 ghost use Rattle.block_reader.specs.Machine.{Reads, ReadsKnots};
 use crate::faults::end_fault;
 use crate::faults::header_fault;
 use crate::faults::knot_fault;
 use crate::faults::length_fault;
+use crate::readings::count_readings;
 use following::Neighbour;
 use following::size_cause;
 use knot::COEFFICIENTS_MAX;
 use knot::KNOTS_MAX;
 use knot::Knot;
 use knot::Refusal;
+use word::edition;
 use word::grade;
 use word::kind;
 use word::knot_count;
@@ -55,10 +57,10 @@ fn stopped(refusal: u32) -> Contents
     }
 }
 
-// The knots of a block, from its second word on.
-fn read_knots(block: &[u8], count: usize) -> Contents
+// The knots of a block of this edition, from its second word on.
+fn read_knots(block: &[u8], edition: u32, count: usize) -> Contents
     requires { ⌜ count ≤ knotsMax ⌝ }
-    ensures { λ r. ⌜ ReadsKnots r count (words (now (block .entry))) ⌝ }
+    ensures { λ r. ⌜ ReadsKnots r edition count (words (now (block .entry))) ⌝ }
 {
     let none = free();
     let mut knots = [none; KNOTS_MAX];
@@ -97,13 +99,19 @@ fn read_knots(block: &[u8], count: usize) -> Contents
         if fault != 0 {
             break 'words fault;
         }
+        let behind = i + m + 2;
+        let readings = count_readings(block, edition, behind);
+        let fault = readings.refusal;
+        if fault != 0 {
+            break 'words fault;
+        }
         knots[k] = next;
         last = Neighbour {
             there: true,
             knot: next,
         };
         k += 1;
-        i += m + 2;
+        i = behind + readings.count;
     };
     Contents {
         knots,
@@ -112,11 +120,11 @@ fn read_knots(block: &[u8], count: usize) -> Contents
     }
 }
 
-// Every list of bytes: the number of its first fault in word order, or its list. An accepted block is the block of its
-// list.
+// Every list of bytes: the number of its first fault in word order, or its list. An accepted block of edition 1 is the
+// block of its list.
 pub fn read(block: &[u8]) -> Contents
     ensures { λ r. ⌜ Reads r (first (blockCauses (now (block .entry)))) (listOf (now (block .entry))) ⌝ }
-    ensures { λ _. ⌜ (first (blockCauses (now (block .entry))) ≡ none →
+    ensures { λ _. ⌜ (first (blockCauses (now (block .entry))) ≡ none → editionOf (now (block .entry)) ≡ plainEdition →
         Block·block (listOf (now (block .entry))) ≡ now (block .entry)) ⌝ }
 {
     let length = length_fault(block.len()).number();
@@ -128,5 +136,5 @@ pub fn read(block: &[u8]) -> Contents
     if header != 0 {
         return stopped(header);
     }
-    read_knots(block, knot_count(word) as usize)
+    read_knots(block, edition(word), knot_count(word) as usize)
 }

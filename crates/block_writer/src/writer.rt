@@ -6,7 +6,7 @@ ghost use lib.Seq.{sets};
 ghost use Rattle.knot.specs.Machine.{Filled, Graded, scan, scansIn};
 ghost use Rattle.block.specs.Bytes.{bytes};
 ghost use Rattle.block.specs.Block.{block, scanWords, written};
-use block::EDITION;
+use block::PLAIN_EDITION;
 use knot::KNOTS_MAX;
 use knot::Knot;
 use word::coefficient_word;
@@ -53,7 +53,7 @@ pub fn write(knots: [Knot; KNOTS_MAX], count: usize, out: &mut [u8]) -> usize
     ensures { λ r. ⌜ (r ≡ ListN·length (block (scansIn count knots)))
         × (now (out .exit) ≡ written (scansIn count knots) (now (out .entry))) ⌝ }
 {
-    store(out, 0, header_word(count as u8, EDITION));
+    store(out, 0, header_word(count as u8, PLAIN_EDITION));
     let mut i = 1;
     let mut k = 0;
     while k < count {

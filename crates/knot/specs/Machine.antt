@@ -39,7 +39,7 @@ pub record Filled (knots : List Knot) (n : ℕ) : Type 0 where
   pub count : n ≤ knotsMax
   pub graded : (k : ℕ) → k < n → Graded (knotIn knots k)
 
--- document 01's number of each cause
+-- the documents' number of each cause
 abbrev pub number : Refusal → ℕ
 number Refusals.Form = 1
 number Refusals.Full = 2
@@ -51,17 +51,19 @@ number Refusals.Outside = 7
 number Refusals.Few = 8
 number Refusals.Index = 9
 number Refusals.Output = 10
+number Refusals.Stride = 11
+number Refusals.Readings = 12
 
 -- the number that a verdict refuses with
 abbrev pub refusal : Verdict → Option ℕ
 refusal Verdicts.Passed = none
 refusal (Verdicts.Refused r) = some (number r)
 
--- the refusal that a number from 0 to 10 stands for; 0 is none
+-- the refusal that a number from 0 to 12 stands for; 0 is none
 abbrev pub refusalOf : ℕ → Option ℕ
 refusalOf zero = none
 refusalOf (suc n) = some (suc n)
 
 pub record Numbers (n : ℕ) (found : Option ℕ) : Type 0 where
-  pub known : n ≤ 10
+  pub known : n ≤ 12
   pub is : refusalOf n ≡ found

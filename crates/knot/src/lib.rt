@@ -11,6 +11,7 @@ pub use limits::GAP_MAX;
 pub use limits::GRADE_MAX;
 pub use limits::KNOTS_MAX;
 pub use limits::POSITION_MAX;
+pub use limits::READINGS_MAX;
 pub use limits::SIZE_MAX;
 pub use size::sized;
 pub use table::Refusal;

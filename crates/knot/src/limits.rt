@@ -1,4 +1,4 @@
-// The limits of a reel, each in one place.
+// The limits of a reel, and of the readings beside it, each in one place.
 pub const KNOTS_MAX: usize = 129;
 
 // in steps
@@ -14,3 +14,6 @@ pub const GAP_MAX: u64 = 16;
 
 // of |C_j| × h^j
 pub const SIZE_MAX: u64 = 268_435_456;
+
+// of one knot, in a block
+pub const READINGS_MAX: usize = 32;

@@ -24,6 +24,10 @@ pub enum Refusal {
     Index,
     // output shorter than the block
     Output,
+    // a view with n of 0
+    Stride,
+    // a 33rd reading
+    Readings,
 }
 
 impl Refusal {
@@ -41,12 +45,14 @@ impl Refusal {
             Refusal::Few => 8,
             Refusal::Index => 9,
             Refusal::Output => 10,
+            Refusal::Stride => 11,
+            Refusal::Readings => 12,
         }
     }
 
     // The refusal of a number of the table.
     pub fn numbered(n: u32) -> Self
-        requires { ⌜ (1 ≤ n) × (n ≤ 10) ⌝ }
+        requires { ⌜ (1 ≤ n) × (n ≤ 12) ⌝ }
         ensures { λ r. ⌜ Machine·number r ≡ n ⌝ }
     {
         match n {
@@ -59,7 +65,9 @@ impl Refusal {
             7 => Refusal::Outside,
             8 => Refusal::Few,
             9 => Refusal::Index,
-            _ => Refusal::Output,
+            10 => Refusal::Output,
+            11 => Refusal::Stride,
+            _ => Refusal::Readings,
         }
     }
 }

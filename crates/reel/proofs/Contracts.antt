@@ -6,7 +6,8 @@ use mathlib.Core.List.{List, []}
 use mathlib.Core.Path.{_≡_}
 use Prim.Native.Nat.{ℕ}
 use lib.IntN.{ℤ}
-use Rattle.block.specs.Block.{block}
+use Rattle.block.specs.Block.{plainEdition, block}
+use Rattle.block.specs.Reading.{editionOf}
 use Rattle.calls.specs.Calls.{accepted, clear, append, correct, read, write, value, trend, total}
 use Rattle.reel.specs.Machine.{scans, Held, replyOf, Does}
 use Rattle.reel.specs.declared.held.Reel.{Reel}
@@ -44,10 +45,10 @@ module _ (given : Reel) (handed : Handed) (held : Held given) where
       Does (read (now bytes)) given (handed .answer) (handed .reel) []
   read-does κs bytes contract = contract held .0
 
-  -- an accepted block is the block of its list
+  -- an accepted block of edition 1 is the block of its list
   pub read-again : (κs : Lfts 1) (bytes : RefT (List ℕ)) →
       (read-reads.Pre κs (given, (bytes, tt)) → read-reads.Post κs (given, (bytes, tt)) handed (given, (bytes, tt))) →
-      replyOf (handed .answer) ≡ accepted → block (scans (handed .reel)) ≡ now bytes
+      replyOf (handed .answer) ≡ accepted → editionOf (now bytes) ≡ plainEdition → block (scans (handed .reel)) ≡ now bytes
   read-again κs bytes contract = contract held .1
 
   pub write-does : (κs : Lfts 1) (out after : RefT (List ℕ)) →

@@ -25,7 +25,7 @@ pub record Held (r : Reel) : Type 0 where
   pub filled : Filled (r .knots) (r .count)
   pub standing : Standing (scans r)
 
--- the reply of an answer, with document 01's numbers
+-- the reply of an answer, with the documents' numbers
 abbrev pub replyOf : Answer → Reply
 replyOf Answers.Accepted = accepted
 replyOf (Answers.Number z) = number z

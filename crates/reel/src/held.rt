@@ -5,7 +5,8 @@ ghost use lib.ListN.{length};
 ghost use Rattle.rounding.specs.Limits.{gapMax, gradeMax, knotsMax, sizeMax};
 ghost use Rattle.scans.specs.RefusalTable.{first as RefusalTable·first};
 ghost use Rattle.knot.specs.Machine.{refusal};
-ghost use Rattle.block.specs.Block.{block};
+ghost use Rattle.block.specs.Block.{block, plainEdition};
+ghost use Rattle.block.specs.Reading.{editionOf};
 ghost use Rattle.calls.specs.Calls.{append as Calls·append, clear as Calls·clear, correct as Calls·correct};
 ghost use Rattle.calls.specs.Calls.{read as Calls·read, write as Calls·write, accepted, causes, positionOf};
 ghost use Rattle.calls.specs.Calls.{total as Calls·total, trend as Calls·trend, value as Calls·value};
@@ -132,11 +133,12 @@ impl Reel {
         }
     }
 
-    // The list of a block, and the block is then that of the list; or the number of its first fault.
+    // The list of a block, or the number of its first fault. An accepted block of edition 1 is the block of its list.
     pub fn read(mut self, bytes: &[u8]) -> Handed
         requires { ⌜ Held self ⌝ }
         ensures { λ r. ⌜ Does (Calls·read (now (bytes .entry))) self (r .answer) (r .reel) [] ⌝ }
-        ensures { λ r. ⌜ (replyOf (r .answer) ≡ accepted → block (scans (r .reel)) ≡ now (bytes .entry)) ⌝ }
+        ensures { λ r. ⌜ (replyOf (r .answer) ≡ accepted → editionOf (now (bytes .entry)) ≡ plainEdition →
+            block (scans (r .reel)) ≡ now (bytes .entry)) ⌝ }
     {
         let contents = block_reader::read(bytes);
         let refusal = contents.refusal;

@@ -5,12 +5,22 @@ use reel::Handed;
 use reel::Reel;
 use text::put_signed;
 
+pub fn say_unreadable() {
+    io::write_all(1, b"unreadable");
+}
+
 pub fn unreadable(reel: Reel) -> Reel
     requires { ⌜ Held reel ⌝ }
     ensures { λ r. ⌜ Held r ⌝ }
 {
-    io::write_all(1, b"unreadable");
+    say_unreadable();
     reel
+}
+
+// The number of a refusal.
+pub fn refused(number: u32) {
+    io::write_all(1, b"refused ");
+    io::print_decimal(1, number as u64);
 }
 
 // What a call answered. A number stands behind the word that asked for it, which ends before the place `at`. Where the
@@ -38,8 +48,7 @@ pub fn told(before: Reel, handed: Handed, line: &[u8], at: usize, next: usize) -
             io::write_all(1, &digits[0..end]);
         }
         Answer::Refused(cause) => {
-            io::write_all(1, b"refused ");
-            io::print_decimal(1, cause.number() as u64);
+            refused(cause.number());
         }
     }
     handed.reel

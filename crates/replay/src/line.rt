@@ -11,6 +11,8 @@ use crate::reel_calls::listed;
 use crate::reel_calls::loaded;
 use crate::reel_calls::same;
 use crate::reel_calls::write;
+use crate::views::view;
+use crate::views::view_at;
 use crate::words::APPEND;
 use crate::words::CLEAR;
 use crate::words::CORRECT;
@@ -20,6 +22,8 @@ use crate::words::SAME;
 use crate::words::TOTAL;
 use crate::words::TREND;
 use crate::words::VALUE;
+use crate::words::VIEW;
+use crate::words::VIEW_AT;
 use crate::words::WRITE;
 use reel::Reel;
 
@@ -45,6 +49,14 @@ fn called(reel: Reel, word: u64, line: &[u8], at: usize) -> Reel
         APPEND | CORRECT => listed(reel, word, x, line, at),
         WRITE => write(reel, line, at),
         SAME => same(reel, line, at),
+        VIEW => {
+            view(line, at);
+            reel
+        }
+        VIEW_AT => {
+            view_at(line, at);
+            reel
+        }
         _ => unreadable(reel),
     }
 }

@@ -8,6 +8,7 @@ mod line;
 mod number;
 mod reel_calls;
 mod script;
+mod views;
 mod words;
 
 fn main() {

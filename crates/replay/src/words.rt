@@ -17,5 +17,9 @@ pub const TOTAL: u64 = 1_29_24_29_10_21;
 
 pub const SAME: u64 = 1_28_10_22_14;
 
+pub const VIEW: u64 = 1_31_18_14_32;
+
+pub const VIEW_AT: u64 = 1_31_18_14_32_10_29;
+
 // No word: above every word of nine letters.
 pub const NO_WORD: u64 = 2_000_000_000_000_000_000;

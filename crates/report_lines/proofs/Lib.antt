@@ -1,2 +1,3 @@
 mod Opening
 mod Texts
+mod Operators

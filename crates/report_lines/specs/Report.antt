@@ -58,7 +58,7 @@ reelLine scans n = reelText n (replyTo (total 0 n) scans)
 unfoldable pub refusedLine : ℕ → List ℕ
 refusedLine n = 114 ∷ 101 ∷ 102 ∷ 117 ∷ 115 ∷ 101 ∷ 100 ∷ space ++ decimal n ++ lineFeed
 
--- over 4,652 bytes: 1; then what read refuses; then fewer than two knots: 8
+-- over 21,164 bytes (request 1/14): 1; then what read refuses; then fewer than two knots: 8
 unfoldable pub reportCauses : List ℕ → List Cause
 reportCauses bytes = badForm (ltb blockMax (length bytes)) ∷ blockCauses bytes ++ tooFew (length (listOf bytes)) ∷ []
 

@@ -13,14 +13,14 @@ const BLOCKS_MAX: usize = 65_536;
 const ROOM_MAX: usize = BLOCK_MAX + 4;
 
 fn block_room() -> [u8; ROOM_MAX]
-    ensures { λ r. ⌜ length r ≡ 4656 ⌝ }
+    ensures { λ r. ⌜ length r ≡ 21168 ⌝ }
 {
     [0; ROOM_MAX]
 }
 
 // The report of the next block, of so many bytes.
 fn run(size: usize)
-    requires { ⌜ size ≤ 4656 ⌝ }
+    requires { ⌜ size ≤ 21168 ⌝ }
 {
     let mut block = block_room();
     let n = io::read_full(0, &mut block[..size]);

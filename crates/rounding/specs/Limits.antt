@@ -1,4 +1,4 @@
--- Document 01, "The reel": its limits.
+-- Document 01, "The reel": its limits; and that of request 1/14.
 use Prim.Native.Nat.{ℕ}
 
 -- a reel has 0 to 129 knots
@@ -20,3 +20,7 @@ gapMax = 16
 -- the size rule's limit, 2^28
 abbrev pub sizeMax : ℕ
 sizeMax = 268435456
+
+-- request 1/14: a knot has up to 32 readings, in a block
+abbrev pub readingsMax : ℕ
+readingsMax = 32

@@ -1,10 +1,11 @@
--- Document 01, "Refusal table": its rows, each a cause that holds or not, with its number; and the first that holds.
+-- Document 01, "Refusal table", with the rows of document 02: each a cause that holds or not, with its number; and the
+-- first that holds.
 use mathlib.Core.Bool.{Bool, false, not, _||_, cond}
 use mathlib.Core.List.{List, [], _∷_}
 use mathlib.Core.Option.{Option, none, some}
 use Prim.Native.Nat.{ℕ, _+_}
 use lib.Dec.{eqb, leb, ltb}
-use Rattle.rounding.specs.Limits.{knotsMax, positionMax, gradeMax, gapMax}
+use Rattle.rounding.specs.Limits.{knotsMax, positionMax, gradeMax, gapMax, readingsMax}
 use Rattle.scans.specs.Scan.{Scan, gap}
 use Rattle.scans.specs.SizeRule.{follows}
 
@@ -69,6 +70,14 @@ noRange i j count = record { number = 9; holds = ltb j i || leb count j }
 -- output shorter than the block
 abbrev pub shortOutput : ℕ → ℕ → Cause
 shortOutput room size = record { number = 10; holds = ltb room size }
+
+-- request 1/14: a view with n of 0
+abbrev pub zeroStride : ℕ → Cause
+zeroStride n = record { number = 11; holds = eqb n 0 }
+
+-- request 1/14: a 33rd reading
+abbrev pub tooManyReadings : ℕ → Cause
+tooManyReadings count = record { number = 12; holds = ltb readingsMax count }
 
 -- ---- what append, correct and the reader of blocks have in common
 

@@ -2,7 +2,8 @@
 use mathlib.Core.List.{List}
 use mathlib.Core.Path.{_≡_}
 use Prim.Native.Nat.{ℕ}
-use Rattle.block.specs.Block.{block}
+use Rattle.block.specs.Block.{plainEdition, block}
+use Rattle.block.specs.Reading.{editionOf}
 use Rattle.calls.specs.Calls.{Call, accepted, read}
 use Rattle.reel.specs.Machine.{scans, Held, replyOf, Does}
 use Rattle.reel.specs.declared.held.Reel.{Reel}
@@ -21,7 +22,7 @@ called-does (by-value given x handed contract) held = value-does given handed he
 called-does (by-trend given x handed contract) held = trend-does given handed held x contract
 called-does (by-total given i j handed contract) held = total-does given handed held i j contract
 
--- an accepted block is the block of the list that then stands
+-- an accepted block of edition 1 is the block of the list that then stands
 pub called-again : {given handed : Reel} {outcome : Outcome} {bytes : List ℕ} → Called (read bytes) given outcome handed → Held given →
-    replyOf (outcome .answer) ≡ accepted → block (scans handed) ≡ bytes
+    replyOf (outcome .answer) ≡ accepted → editionOf bytes ≡ plainEdition → block (scans handed) ≡ bytes
 called-again (by-read κs given bytes handed contract) held = read-again given handed held κs bytes contract

@@ -1,4 +1,5 @@
 pub mod Runs
 pub mod Called
 pub mod RoundTrips
+pub mod Operators
 pub mod Sequences

@@ -19,9 +19,9 @@ write-read given handed other back wrote outcome out n held writes answer held-o
     }
 
 pub read-write : ReadWrite
-read-write given handed back taken outcome bytes out held reads ok writes =
+read-write given handed back taken outcome bytes out held reads ok plain writes =
     let r = called-does reads held in
-    let again = called-again reads held ok in
+    let again = called-again reads held ok plain in
     let w = called-does writes (r .held) in
     record {
       counts = λ room. w .replies ∙ rw (← again) (room-answers (scans handed) out (rw again room));

@@ -1,10 +1,13 @@
--- Demand 2: "A written block read back gives the same reel, and an accepted block written again gives the same bytes."
--- Both are about the calls as their functions' own contracts have them (`Called`), on any held reels.
+-- Demand 2: "A written block read back gives the same reel, and an accepted block written again gives the same bytes";
+-- by request 1/14 the second "is then a matter of edition 1 blocks". Both are about the calls as their functions' own
+-- contracts have them (`Called`), on any held reels.
 use mathlib.Core.List.{List, _++_}
 use mathlib.Core.Path.{_≡_}
 use Prim.Native.Nat.{ℕ, _≤_}
 use lib.IntN.{pos}
 use lib.ListN.{length, take, drop}
+use Rattle.block.specs.Block.{plainEdition}
+use Rattle.block.specs.Reading.{editionOf}
 use Rattle.calls.specs.Calls.{accepted, number, read, write}
 use Rattle.reel.specs.Machine.{Held, replyOf, scans}
 use Rattle.reel.specs.declared.held.Reel.{Reel}
@@ -28,9 +31,9 @@ pub record WrittenAgain (bytes out : List ℕ) (outcome : Outcome) : Type 0 wher
   pub counts : length bytes ≤ length out → replyOf (outcome .answer) ≡ number (pos (length bytes))
   pub puts : length bytes ≤ length out → outcome .output ≡ bytes ++ drop (length bytes) out
 
--- the second: a read by any held reel accepts these bytes; then any write, into any output, of the reel that it hands
--- back satisfies `WrittenAgain`
+-- the second: a read by any held reel accepts these bytes, of edition 1; then any write, into any output, of the reel
+-- that it hands back satisfies `WrittenAgain`
 abbrev pub ReadWrite : Type 0
 ReadWrite = (given handed back : Reel) (taken outcome : Outcome) (bytes out : List ℕ) →
     Held given → Called (read bytes) given taken handed → replyOf (taken .answer) ≡ accepted →
-    Called (write out) handed outcome back → WrittenAgain bytes out outcome
+    editionOf bytes ≡ plainEdition → Called (write out) handed outcome back → WrittenAgain bytes out outcome

@@ -1,2 +1,2 @@
-// Demands 2 and 3 over the calls of the held reel: both round trips, and the theorem on every sequence of calls. No
-// functions: the statements in specs/, the theorems in proofs/.
+// Demands 2 and 3 over the calls of the held reel: both round trips, and the theorem on every sequence of calls; and
+// that readings change no answer. No functions: the statements in specs/, the theorems in proofs/.

@@ -16,4 +16,7 @@ pub use masks::knot_spare;
 pub use masks::knot_word;
 pub use masks::payload;
 pub use masks::position;
+pub use masks::reading;
+pub use masks::reading_mark;
+pub use masks::reading_spare;
 pub use masks::words_before;

@@ -4,6 +4,7 @@ ghost use Prim.Native.Nat.{_^_, _<_};
 ghost use Rattle.block.specs.Fields.{kind as Fields·kind, knotCount, edition as Fields·edition, headerSpare};
 ghost use Rattle.block.specs.Fields.{headerWord, position as Fields·position, grade as Fields·grade, knotSpare};
 ghost use Rattle.block.specs.Fields.{knotWord, payload as Fields·payload, coefficientWord, wordsBefore, endWord};
+ghost use Rattle.block.specs.Fields.{reading as Fields·reading, readingMark, readingSpare};
 
 // The top two bits.
 pub fn kind(word: u32) -> u32
@@ -94,4 +95,25 @@ pub fn end_word(before: u32) -> u32
     ensures { λ r. ⌜ r ≡ endWord before ⌝ }
 {
     before | (3 << 30)
+}
+
+// Of a reading: bit 29.
+pub fn reading_mark(word: u32) -> u32
+    ensures { λ r. ⌜ r ≡ readingMark word ⌝ }
+{
+    (word & 0x3fff_ffff) >> 29
+}
+
+// Of a reading: bits 0 to 15.
+pub fn reading(word: u32) -> u32
+    ensures { λ r. ⌜ r ≡ Fields·reading word ⌝ }
+{
+    word & 0xffff
+}
+
+// Of a reading: bits 16 to 28.
+pub fn reading_spare(word: u32) -> u32
+    ensures { λ r. ⌜ r ≡ readingSpare word ⌝ }
+{
+    (word & 0x1fff_ffff) >> 16
 }

@@ -1,12 +1,12 @@
 """Parts of the replay script: blocks that are read, with their faults."""
 from document.block import (
-    COEFFICIENT, EDITION, END, KNOT, PAYLOAD, block_of, block_words, coefficient_word, end_word, header_word, kind_of,
-    knot_fields, knot_word, packed, payload_of, with_end, word,
+    COEFFICIENT, EDITION, EDITION_OF_READINGS, END, KNOT, PAYLOAD, block_of, block_words, coefficient_word, end_word,
+    header_word, kind_of, knot_fields, knot_word, packed, payload_of, with_end, word,
 )
 from document.coefficients import FLAT, only
 from document.knot import GRADE_MAX, POSITION_MAX, SIZE_MAX
 from document.known_results import WORKED
-from stored.faults import SOUND, all_faults, faulty
+from stored.faults import SOUND, all_faults, faulty, first_number
 from stored.reels import MIXED
 from stored.replay_lines import line_for
 
@@ -28,14 +28,14 @@ def forms_of_blocks(script):
     rest = words[1:]
     for bit in range(8, PAYLOAD):
         script.expect(1, "read", packed([words[0] ^ 1 << bit] + rest))
-    for edition in (0, 2, 3, 255):
-        script.expect(1, "read", packed([header_word(3, edition)] + rest))
-        script.expect(1, "read", packed([header_word(0, edition), end_word(1)]))
+    for number, edition in ((1, 0), (0, EDITION_OF_READINGS), (1, 3), (1, 255)):
+        script.try_block(number, packed([header_word(3, edition)] + rest))
+        script.try_block(number, packed([header_word(0, edition), end_word(1)]))
     for count in (130, 131, 200, 254, 255):
         for tail in (rest, [end_word(1)], [0], [header_word(count)]):
             script.expect(2, "read", packed([header_word(count)] + tail))
-        for edition, spare in ((0, 0), (2, 0), (EDITION, 1), (EDITION, 1 << 13)):
-            script.expect(1, "read", packed([header_word(count, edition, spare), end_word(1)]))
+        for number, edition, spare in ((1, 0, 0), (2, EDITION_OF_READINGS, 0), (1, EDITION, 1), (1, EDITION, 1 << 13)):
+            script.expect(number, "read", packed([header_word(count, edition, spare), end_word(1)]))
         for kind in (KNOT, COEFFICIENT, END):
             script.expect(1, "read", packed([word(kind, header_word(count)), end_word(1)]))
         script.expect(1, "read", packed([header_word(count)] + rest) + b"\0")
@@ -103,11 +103,12 @@ def two_faults(script):
     faults = list(all_faults())
     script.hold_knots((20, (1, 1)))
     for fault in faults:
-        script.expect(fault.number, "read", faulty(words, [fault]))
+        script.try_block(fault.number, faulty(words, [fault]))
     for i, fault in enumerate(faults):
         for other in faults[i + 1 :]:
-            if fault.number != other.number and fault.can_stand_with(other):
-                script.expect(min(fault, other, key=lambda f: f.spot).number, "read", faulty(words, [fault, other]))
+            # Edition 2 with a fault of form is among the blocks with readings.
+            if fault.number != other.number and max(fault.number, other.number) > 1 and fault.can_stand_with(other):
+                script.expect(first_number(fault, other), "read", faulty(words, [fault, other]))
     script.expect(0, "read", packed(words))
 
 

@@ -1,5 +1,5 @@
 """Parts of the replay script: full reels, with their blocks, queries and greatest totals."""
-from document.block import BLOCK_MAX, block_of, block_words, coefficient_word, end_word, header_word, packed
+from document.block import WRITTEN_MAX, block_of, block_words, coefficient_word, end_word, header_word, packed
 from document.coefficients import FLAT, MORE, NINE, greatest, only
 from document.knot import GAP_MAX, GRADE_MAX, KNOTS_MAX, POSITION_MAX, SIZE_MAX
 from document.piece import UNIT_OF_POSITION, UNIT_OF_WATER
@@ -52,7 +52,7 @@ def full_reels(script):
         position += gaps[k + 1]
     refused_when_full(script, script.reel.knots[-1][0])
     seventh = list(script.reel.knots)
-    for room in (BLOCK_MAX, BLOCK_MAX - 1, 4_700):
+    for room in (WRITTEN_MAX, WRITTEN_MAX - 1, 4_700):
         script.write(room)
     query_when_full(script)
     script.expect(0, "clear")
@@ -62,11 +62,11 @@ def full_reels(script):
         for j in (1, 7):
             script.expect(6, "correct", k, only(j, SIZE_MAX // gap**j + 1))
         script.expect(0, "correct", k, tuple(-c for c in seventh[k][1]))
-    script.write(BLOCK_MAX)
+    script.write(WRITTEN_MAX)
     script.expect(0, "correct", 128, FLAT)
-    script.write(BLOCK_MAX - 28)
+    script.write(WRITTEN_MAX - 28)
     script.expect(0, "read", block_of([(k, greatest(GRADE_MAX, 1, (-1) ** k, -1)) for k in range(KNOTS_MAX)]))
-    script.write(BLOCK_MAX)
+    script.write(WRITTEN_MAX)
     long_blocks(script, flat, seventh)
 
 
@@ -85,7 +85,7 @@ def long_blocks(script, flat, seventh):
     script.expect(1, "read", packed(words + [end_word(len(words))]))
     script.expect(2, "read", block_of(seventh + [(seventh[-1][0] + 1, (0,) * 8)]))
     script.expect(6, "read", packed(words[:-2] + [coefficient_word(-SIZE_MAX - 1), words[-1]]))
-    zeros = [0] * (BLOCK_MAX // 4)
+    zeros = [0] * (WRITTEN_MAX // 4)
     for number, knots in ((4, [(5, FLAT), (5, FLAT)]), (6, [(5, MORE)])):
         script.expect(number, "read", packed(block_words(knots) + zeros))
 

@@ -1,4 +1,4 @@
--- How far reading has come: between two knots, and between two coefficient words of one.
+-- How far reading has come: between two knots, and between two coefficient words of one. The edition is e throughout.
 use mathlib.Core.Bool.{true}
 use mathlib.Core.List.{List, _∷_, _++_, map, append-nil}
 use mathlib.Core.Option.{Option, none, some, Option·some-ne-none}
@@ -9,7 +9,7 @@ use native.Mathlib.Omega.{arith}
 use lib.IntN.{ℤ}
 use lib.ListN.{length, take, drop, getD, set, length-set, length-drop}
 use lib.Seq.{take-suc, take-suc-set, getD-drop, drop-drop, append-snoc}
-use Rattle.rounding.specs.Limits.{knotsMax, gradeMax}
+use Rattle.rounding.specs.Limits.{knotsMax, gradeMax, readingsMax}
 use Rattle.scans.specs.Scan.{Scan, scanOf}
 use Rattle.scans.specs.RefusalTable.{first, sizeCauses}
 use Rattle.knot.specs.Machine.{Numbers, scan, Graded, knotIn, scansIn}
@@ -19,27 +19,27 @@ use Rattle.following.specs.declared.causes.Neighbour.{Neighbour}
 use Rattle.scans.proofs.Causes.{first-found, first-later}
 use Rattle.knot.proofs.Lists.{map-append-one, scans-stored, graded-stored}
 use Rattle.block.specs.Fields.{kind, position, grade, payload}
-use Rattle.block.specs.Reading.{knotCauses, coefficientCauses, knotsCauses, knotsFrom}
+use Rattle.block.specs.Reading.{readingWords, afterReadings, knotCauses, coefficientCauses, readingCauses, knotsCauses, knotsFrom}
 use Rattle.block_reader.specs.Machine.{Reads}
 use Rattle.block_reader.specs.declared.reader.Contents.{Contents}
-use Rattle.block.proofs.Steps.{sizeOn, afterWord, knot-passed, knot-listed, coefficient-right, coefficient-wrong, coefficient-there}
+use Rattle.block.proofs.Steps.{readingsOn, sizeOn, afterWord, knot-passed, knot-listed, coefficient-right, coefficient-wrong, coefficient-there}
 
 -- the first fault of the knots, and their list
-abbrev pub fault : List ℕ → ℕ → Option ℕ
-fault ws count = first (knotsCauses (length ws - 1) count none (drop 1 ws))
+abbrev pub fault : ℕ → List ℕ → ℕ → Option ℕ
+fault e ws count = first (knotsCauses e (length ws - 1) count none (drop 1 ws))
 
-abbrev pub list : List ℕ → ℕ → List Scan
-list ws count = knotsFrom count (drop 1 ws)
+abbrev pub list : ℕ → List ℕ → ℕ → List Scan
+list e ws count = knotsFrom e count (drop 1 ws)
 
 -- k knots are read, and word i is the next: what the definition gives of the whole is what it gives from here
-pub record Come (ws : List ℕ) (count : ℕ) (knots : List Knot) (last : Neighbour) (k i : ℕ) : Type 0 where
+pub record Come (e : ℕ) (ws : List ℕ) (count : ℕ) (knots : List Knot) (last : Neighbour) (k i : ℕ) : Type 0 where
   pub within : k ≤ count
-  pub place : i ≤ 9 * k + 1
+  pub place : i ≤ 41 * k + 1
   pub room : length knots ≡ knotsMax
   pub graded : (j : ℕ) → j < k → Graded (knotIn knots j)
   pub lastGraded : last .there ≡ true → Graded (last .knot)
-  pub faults : fault ws count ≡ first (knotsCauses (length ws - 1) (count - k) (neighbour last) (drop i ws))
-  pub scans : list ws count ≡ scansIn k knots ++ knotsFrom (count - k) (drop i ws)
+  pub faults : fault e ws count ≡ first (knotsCauses e (length ws - 1) (count - k) (neighbour last) (drop i ws))
+  pub scans : list e ws count ≡ scansIn k knots ++ knotsFrom e (count - k) (drop i ws)
 
 -- and of the knot at word i, of grade m, j coefficient words
 pub record Coefficients (ws : List ℕ) (i m : ℕ) (c : List ℤ) (j : ℕ) : Type 0 where
@@ -93,42 +93,55 @@ module _ (ws : List ℕ) (i m : ℕ) where
 abbrev pub next : ℕ → ℕ → List ℤ → Knot
 next x m c = record { position = x; grade = m; coefficients = c }
 
--- what is left to find from its first coefficient word on: its coefficient words, its size, and the n knots after it
-abbrev ahead : ℕ → ℕ → Option Scan → ℕ → ℕ → List ℕ → Option ℕ
-ahead before n last x m rest = first (afterWord before n last x m rest)
+-- what is left to find from its first coefficient word on: its coefficient words, its size, its readings, and the n knots after it
+abbrev ahead : ℕ → ℕ → ℕ → Option Scan → ℕ → ℕ → List ℕ → Option ℕ
+ahead e before n last x m rest = first (afterWord e before n last x m rest)
 
-module _ (ws : List ℕ) (count : ℕ) (knots : List Knot) (last : Neighbour) (k i : ℕ) (come : Come ws count knots last k i) (b : k < count)
+module _ (e : ℕ) (ws : List ℕ) (count : ℕ) (knots : List Knot) (last : Neighbour) (k i : ℕ) (come : Come e ws count knots last k i) (b : k < count)
     (x m : ℕ) (c : List ℤ) (passed : first (knotCauses (neighbour last) (getD ws i 0)) ≡ none)
     (x-is : x ≡ position (getD ws i 0)) (m-is : m ≡ grade (getD ws i 0)) where
-  one-left : count - k ≡ suc (count - (k + 1))
+  -- the words before the end word, and the knots after this one
+  abbrev end : ℕ
+  end = length ws - 1
+
+  abbrev more : ℕ
+  more = count - (k + 1)
+
+  one-left : count - k ≡ suc more
   one-left = omega arith
 
-  from-word : fault ws count ≡ ahead (length ws - 1) (count - (k + 1)) (neighbour last) x m (drop (i + 1) ws)
+  from-word : fault e ws count ≡ ahead e end more (neighbour last) x m (drop (i + 1) ws)
   from-word =
-      let to = ahead (length ws - 1) (count - (k + 1)) (neighbour last) in
-      come .faults ∙ ap (λ n. first (knotsCauses (length ws - 1) n (neighbour last) (drop i ws))) one-left ∙
-      knot-passed (neighbour last) (length ws - 1) (count - (k + 1)) ws i passed ∙
+      let to = ahead e end more (neighbour last) in
+      come .faults ∙ ap (λ n. first (knotsCauses e end n (neighbour last) (drop i ws))) one-left ∙ knot-passed e end more (neighbour last) ws i passed ∙
       ap₂ (λ y n. to y n (drop (suc i) ws)) (sym x-is) (sym m-is) ∙ ap (λ a. to x m (drop a ws)) (sym (add-one i))
 
-  list-from-word : list ws count ≡ scansIn k knots ++ scanOf x (map payload (take (m + 1) (drop (i + 1) ws))) ∷ knotsFrom (count - (k + 1))
-      (drop (m + 1) (drop (i + 1) ws))
+  list-from-word : list e ws count ≡ scansIn k knots ++ scanOf x (map payload (take (m + 1) (drop (i + 1) ws))) ∷ knotsFrom e more
+      (afterReadings e (drop (m + 1) (drop (i + 1) ws)))
   list-from-word =
       let to : ℕ → ℕ → List ℕ → List Scan =
-      λ y n rest. scansIn k knots ++ scanOf y (map payload (take (n + 1) rest)) ∷ knotsFrom (count - (k + 1)) (drop (n + 1) rest) in
-      come .scans ∙ ap (λ n. scansIn k knots ++ knotsFrom n (drop i ws)) one-left ∙
-      ap (λ l. scansIn k knots ++ l) (knot-listed (neighbour last) (count - (k + 1)) ws i passed) ∙
+      λ y n rest. scansIn k knots ++ scanOf y (map payload (take (n + 1) rest)) ∷ knotsFrom e more (afterReadings e (drop (n + 1) rest)) in
+      come .scans ∙ ap (λ n. scansIn k knots ++ knotsFrom e n (drop i ws)) one-left ∙
+      ap (λ l. scansIn k knots ++ l) (knot-listed e end more (neighbour last) ws i passed) ∙
       ap₂ (λ y n. to y n (drop (suc i) ws)) (sym x-is) (sym m-is) ∙ ap (λ a. to x m (drop a ws)) (sym (add-one i))
 
   -- a word that is no coefficient word
-  pub from-wrong : (j : ℕ) → Coefficients ws i m c j → j ≤ m → (kind (getD ws (i + 1 + j) 0) ≡ 2 → ⊥) → fault ws count ≡ some 1
+  pub from-wrong : (j : ℕ) → Coefficients ws i m c j → j ≤ m → (kind (getD ws (i + 1 + j) 0) ≡ 2 → ⊥) → fault e ws count ≡ some 1
   from-wrong j read h wrong =
       let some-left : m + 1 - j ≡ suc (m - j) = omega arith in
       from-word ∙
-      first-found (coefficientCauses (m + 1) (drop (i + 1) ws)) (sizeOn (length ws - 1) (count - (k + 1)) (neighbour last) x m (drop (i + 1) ws))
+      first-found (coefficientCauses (m + 1) (drop (i + 1) ws)) (sizeOn e end more (neighbour last) x m (drop (i + 1) ws))
       (read .faults ∙ ap (λ n. first (coefficientCauses n (drop (i + 1 + j) ws))) some-left ∙ coefficient-wrong (m - j) ws (i + 1 + j) wrong)
 
   module _ (done : Coefficients ws i m c (m + 1)) where
-    scan-is : scan (next x m c) ≡ scanOf x (map payload (take (m + 1) (drop (i + 1) ws)))
+    -- the knot's scan, and the words after its coefficients
+    abbrev s : Scan
+    s = scan (next x m c)
+
+    abbrev rest : List ℕ
+    rest = drop (i + m + 2) ws
+
+    scan-is : s ≡ scanOf x (map payload (take (m + 1) (drop (i + 1) ws)))
     scan-is = ap (scanOf x) (done .values)
 
     quiet-words : first (coefficientCauses (m + 1) (drop (i + 1) ws)) ≡ none
@@ -136,53 +149,63 @@ module _ (ws : List ℕ) (count : ℕ) (knots : List Knot) (last : Neighbour) (k
         let all : m + 1 - (m + 1) ≡ 0 = omega arith in
         done .faults ∙ ap (λ n. first (coefficientCauses n (drop (i + 1 + (m + 1)) ws))) all
 
-    after-it : drop (m + 1) (drop (i + 1) ws) ≡ drop (i + (m + 2)) ws
-    after-it = let there : i + 1 + (m + 1) ≡ i + (m + 2) = omega arith in drop-drop (m + 1) (i + 1) ws ∙ ap (λ a. drop a ws) there
+    after-it : drop (m + 1) (drop (i + 1) ws) ≡ rest
+    after-it = let there : i + 1 + (m + 1) ≡ i + m + 2 = omega arith in drop-drop (m + 1) (i + 1) ws ∙ ap (λ a. drop a ws) there
 
-    from-size : fault ws count ≡
-        first (sizeCauses (neighbour last) (scan (next x m c)) ++ knotsCauses (length ws - 1) (count - (k + 1)) (some (scan (next x m c)))
-        (drop (i + (m + 2)) ws))
+    from-size : fault e ws count ≡ first (sizeCauses (neighbour last) s ++ readingsOn e end more s rest)
     from-size =
-        from-word ∙ first-later (coefficientCauses (m + 1) (drop (i + 1) ws))
-        (sizeOn (length ws - 1) (count - (k + 1)) (neighbour last) x m (drop (i + 1) ws)) quiet-words ∙
-        ap₂ (λ s l. first (sizeCauses (neighbour last) s ++ knotsCauses (length ws - 1) (count - (k + 1)) (some s) l)) (sym scan-is) after-it
+        from-word ∙ first-later (coefficientCauses (m + 1) (drop (i + 1) ws)) (sizeOn e end more (neighbour last) x m (drop (i + 1) ws)) quiet-words ∙
+        ap₂ (λ t l. first (sizeCauses (neighbour last) t ++ readingsOn e end more t l)) (sym scan-is) after-it
 
     -- the size refuses
-    pub from-size-found : {n : ℕ} → first (sizeCauses (neighbour last) (scan (next x m c))) ≡ some n → fault ws count ≡ some n
-    from-size-found e =
-        from-size ∙
-        first-found (sizeCauses (neighbour last) (scan (next x m c)))
-        (knotsCauses (length ws - 1) (count - (k + 1)) (some (scan (next x m c))) (drop (i + (m + 2)) ws)) e
+    pub from-size-found : {n : ℕ} → first (sizeCauses (neighbour last) s) ≡ some n → fault e ws count ≡ some n
+    from-size-found h = from-size ∙ first-found (sizeCauses (neighbour last) s) (readingsOn e end more s rest) h
 
-    -- the list so far, and the new scan
-    scans-then : count ≤ knotsMax → list ws count ≡ scansIn (k + 1) (set knots k (next x m c)) ++ knotsFrom (count - (k + 1)) (drop (i + (m + 2)) ws)
-    scans-then n =
-        list-from-word ∙ ap₂ (λ s l. scansIn k knots ++ s ∷ knotsFrom (count - (k + 1)) l) (sym scan-is) after-it ∙
-        sym (append-snoc (scansIn k knots) (scan (next x m c)) (knotsFrom (count - (k + 1)) (drop (i + (m + 2)) ws))) ∙
-        ap (λ l. l ++ knotsFrom (count - (k + 1)) (drop (i + (m + 2)) ws)) (sym (scans-stored knots k (next x m c) (omega (arith, come .room))))
+    module _ (sized : first (sizeCauses (neighbour last) s) ≡ none) where
+      from-readings : fault e ws count ≡ first (readingsOn e end more s rest)
+      from-readings = from-size ∙ first-later (sizeCauses (neighbour last) s) (readingsOn e end more s rest) sized
 
-    pub taken : count ≤ knotsMax → m ≤ gradeMax → first (sizeCauses (neighbour last) (scan (next x m c))) ≡ none →
-        Come ws count (set knots k (next x m c)) (record { there = true; knot = next x m c }) (k + 1) (i + (m + 2))
-    taken n g sized = record {
-      within = omega arith;
-      place = omega (arith, come .place);
-      room = length-set knots k _ ∙ come .room;
-      graded = graded-stored knots k (k + 1) (next x m c) (omega (arith, come .room)) (record { room = done .room; grade = g })
-          (λ j h e. come .graded j (omega arith));
-      lastGraded = λ e. record { room = done .room; grade = g };
-      faults = from-size ∙ first-later (sizeCauses (neighbour last) (scan (next x m c)))
-          (knotsCauses (length ws - 1) (count - (k + 1)) (some (scan (next x m c))) (drop (i + (m + 2)) ws)) sized;
-      scans = scans-then n;
-    }
+      -- a reading refuses
+      pub from-readings-found : {n : ℕ} → first (readingCauses 0 (readingWords e rest)) ≡ some n → fault e ws count ≡ some n
+      from-readings-found h =
+          from-readings ∙ first-found (readingCauses 0 (readingWords e rest)) (knotsCauses e end more (some s) (afterReadings e rest)) h
+
+      -- there are so many
+      module _ (n : ℕ) (n-is : n ≡ length (readingWords e rest)) where
+        past-readings : afterReadings e rest ≡ drop (i + m + 2 + n) ws
+        past-readings = ap (λ a. drop a rest) (sym n-is) ∙ drop-drop n (i + m + 2) ws
+
+        -- the list so far, and the new scan
+        scans-then : count ≤ knotsMax → list e ws count ≡ scansIn (k + 1) (set knots k (next x m c)) ++ knotsFrom e more (drop (i + m + 2 + n) ws)
+        scans-then most =
+            list-from-word ∙ ap₂ (λ t l. scansIn k knots ++ t ∷ knotsFrom e more (afterReadings e l)) (sym scan-is) after-it ∙
+            ap (λ l. scansIn k knots ++ s ∷ knotsFrom e more l) past-readings ∙
+            sym (append-snoc (scansIn k knots) s (knotsFrom e more (drop (i + m + 2 + n) ws))) ∙
+            ap (λ l. l ++ knotsFrom e more (drop (i + m + 2 + n) ws)) (sym (scans-stored knots k (next x m c) (omega (arith, come .room))))
+
+        pub taken : count ≤ knotsMax → m ≤ gradeMax → n ≤ readingsMax → first (readingCauses 0 (readingWords e rest)) ≡ none →
+            Come e ws count (set knots k (next x m c)) (record { there = true; knot = next x m c }) (k + 1) (i + m + 2 + n)
+        taken most g few quiet = record {
+          within = omega arith;
+          place = omega (arith, come .place);
+          room = length-set knots k _ ∙ come .room;
+          graded = graded-stored knots k (k + 1) (next x m c) (omega (arith, come .room)) (record { room = done .room; grade = g })
+              (λ j h d. come .graded j (omega arith));
+          lastGraded = λ t. record { room = done .room; grade = g };
+          faults = from-readings ∙
+              first-later (readingCauses 0 (readingWords e rest)) (knotsCauses e end more (some s) (afterReadings e rest)) quiet ∙
+              ap (λ l. first (knotsCauses e end more (some s) l)) past-readings;
+          scans = scans-then most;
+        }
 
 -- ---- all knots are read
 
-pub ended : (ws : List ℕ) (count : ℕ) (knots : List Knot) (last : Neighbour) (k i : ℕ) → Come ws count knots last k i → k ≡ count →
-    scansIn count knots ≡ list ws count
-ended ws count knots last k i come e =
+pub ended : (e : ℕ) (ws : List ℕ) (count : ℕ) (knots : List Knot) (last : Neighbour) (k i : ℕ) → Come e ws count knots last k i → k ≡ count →
+    scansIn count knots ≡ list e ws count
+ended e ws count knots last k i come h =
     let rest : count - k ≡ 0 = omega arith in
     sym
-    (come .scans ∙ ap (λ n. scansIn k knots ++ knotsFrom n (drop i ws)) rest ∙ append-nil (scansIn k knots) ∙ ap (λ n. scansIn n knots) e)
+    (come .scans ∙ ap (λ n. scansIn k knots ++ knotsFrom e n (drop i ws)) rest ∙ append-nil (scansIn k knots) ∙ ap (λ n. scansIn n knots) h)
 
 -- ---- a fault
 

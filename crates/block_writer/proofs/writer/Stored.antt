@@ -15,7 +15,7 @@ use Rattle.knot.proofs.Lists.{length-scans, at-scans, list-length}
 use Rattle.block.specs.Fields.{headerWord, knotWord, coefficientWord, endWord}
 use Rattle.block.specs.Bytes.{bytesOf, bytes}
 use Rattle.block.proofs.Bytes.{words-stored}
-use Rattle.block.specs.Block.{block, blockWords, editionNow, knotsWords, openWords, scanWords, written}
+use Rattle.block.specs.Block.{block, blockWords, plainEdition, knotsWords, openWords, scanWords, written}
 
 -- ---- the knots still to come
 
@@ -143,7 +143,7 @@ module _ (before : List ℕ) (knots : List Knot) (n : ℕ) where
     all-knots h = rw (none-next knots n can k h) at (come .left .whole)
 
     -- with the header before them, and the end word after them
-    pub block-stored : n ≤ k → (l out′ : List ℕ) (v w : ℕ) → v ≡ headerWord n editionNow → before ≡ sets l 0 (bytesOf v) → w ≡ endWord i →
+    pub block-stored : n ≤ k → (l out′ : List ℕ) (v w : ℕ) → v ≡ headerWord n plainEdition → before ≡ sets l 0 (bytesOf v) → w ≡ endWord i →
         out′ ≡ sets out (4 * i) (bytesOf w) →
         length (block (scansIn n knots)) ≤ length l → out′ ≡ written (scansIn n knots) l
     unfolding block
@@ -151,11 +151,11 @@ module _ (before : List ℕ) (knots : List Knot) (n : ℕ) where
         let scans = scansIn n knots in
         let place : i ≡ 1 + length (knotsWords scans) = all-counted knots n can 1 k i (come .counted) h in
         let count : i ≡ length (openWords scans) = omega (arith, place) in
-        let header : v ≡ headerWord (length scans) editionNow = rw (length-scans knots n (room knots n can)) head in
+        let header : v ≡ headerWord (length scans) plainEdition = rw (length-scans knots n (room knots n can)) head in
         let ends : w ≡ endWord (length (openWords scans)) = end ∙ ap endWord count in
         let last-word = endWord (length (openWords scans)) ∷ [] in
         let opened : Left l 0 (blockWords scans) before 1 (knotsWords scans ++ last-word) =
-        fewer-left (headerWord (length scans) editionNow ∷ []) (knotsWords scans ++ last-word) (all-left l 0 (blockWords scans)) (rw header at first) refl in
+        fewer-left (headerWord (length scans) plainEdition ∷ []) (knotsWords scans ++ last-word) (all-left l 0 (blockWords scans)) (rw header at first) refl in
         let filled : Left l 0 (blockWords scans) out i last-word = fewer-left (knotsWords scans) last-word opened (all-knots h) place in
         let closed : Left l 0 (blockWords scans) out′ (i + 1) [] = fewer-left last-word [] filled (rw ends at last) refl in
         closed .whole ∙ sets-eq (block scans) l 0 (omega (arith, fits)) ∙ ap (λ m. block scans ++ drop m l) (zero-add (length (block scans)))

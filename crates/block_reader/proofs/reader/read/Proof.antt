@@ -3,7 +3,7 @@ use borrow.Author.Needs.{needs}
 use borrow.Author.Tests.{ltb-false}
 use mathlib.Core.List.{List, [], _∷_}
 use mathlib.Core.Option.{Option, none, some, Option·some-ne-none}
-use mathlib.Core.Path.{_≡_, refl, sym, _∙_, ap}
+use mathlib.Core.Path.{_≡_, refl, sym, _∙_, ap, ap₂}
 use Prim.Native.Nat.{ℕ, _-_, _≤_, _<_}
 use native.Mathlib.Omega.{arith}
 use lib.ListN.{length, getD}
@@ -13,10 +13,10 @@ use Rattle.scans.specs.RefusalTable.{first}
 use Rattle.knot.specs.Machine.{refusal, Numbers}
 use Rattle.scans.proofs.Causes.{first-found, first-later, quiet}
 use Rattle.knot.proofs.Numbers.{passed, failed}
-use Rattle.block.specs.Fields.{knotCount}
+use Rattle.block.specs.Fields.{knotCount, edition}
 use Rattle.block.specs.Bytes.{words}
-use Rattle.block.specs.Block.{block}
-use Rattle.block.specs.Reading.{lengthCauses, headerCauses, knotsCauses, wordsCauses, blockCauses, listOfWords, listOf}
+use Rattle.block.specs.Block.{plainEdition, block}
+use Rattle.block.specs.Reading.{lengthCauses, headerCauses, knotsCauses, wordsCauses, blockCauses, editionOf, listOfWords, listOf}
 use Rattle.block.proofs.RoundTrips.{accepted-written}
 use Rattle.block_reader.specs.Machine.{Reads}
 use Rattle.block_reader.specs.declared.reader.Contents.{Contents}
@@ -28,20 +28,21 @@ use Rattle.block_reader.proofs.reader.read.Tie as tie
 
 header-found : {n : ℕ} (ws : List ℕ) → first (headerCauses (getD ws 0 0)) ≡ some n → first (wordsCauses ws) ≡ some n
 header-found [] e = e
-header-found (w ∷ ws) e = first-found (headerCauses w) (knotsCauses (length ws) (knotCount w) none ws) e
+header-found (w ∷ ws) e = first-found (headerCauses w) (knotsCauses (edition w) (length ws) (knotCount w) none ws) e
 
-header-passed : (ws : List ℕ) → first (headerCauses (getD ws 0 0)) ≡ none → first (wordsCauses ws) ≡ fault ws (knotCount (getD ws 0 0))
+header-passed : (ws : List ℕ) → first (headerCauses (getD ws 0 0)) ≡ none → let w = getD ws 0 0 in first (wordsCauses ws) ≡ fault (edition w) ws (knotCount w)
 header-passed [] e = absurd (Option·some-ne-none _ e)
 header-passed (w ∷ ws) e =
     let rest : length ws ≡ length (w ∷ ws) - 1 = omega arith in
-    first-later (headerCauses w) (knotsCauses (length ws) (knotCount w) none ws) e ∙ ap (λ n. first (knotsCauses n (knotCount w) none ws)) rest
+    first-later (headerCauses w) (knotsCauses (edition w) (length ws) (knotCount w) none ws) e ∙
+    ap (λ n. first (knotsCauses (edition w) n (knotCount w) none ws)) rest
 
 -- there is a word
 header-there : (ws : List ℕ) → first (headerCauses (getD ws 0 0)) ≡ none → 0 < length ws
 header-there [] e = absurd (Option·some-ne-none _ e)
 header-there (w ∷ ws) e = omega arith
 
-header-listed : (ws : List ℕ) → first (headerCauses (getD ws 0 0)) ≡ none → listOfWords ws ≡ list ws (knotCount (getD ws 0 0))
+header-listed : (ws : List ℕ) → first (headerCauses (getD ws 0 0)) ≡ none → let w = getD ws 0 0 in listOfWords ws ≡ list (edition w) ws (knotCount w)
 header-listed [] e = refl
 header-listed (w ∷ ws) e = refl
 
@@ -57,7 +58,7 @@ stopped-requires c κs = search needs
 -- a fault before the first knot
 stops : {r : Contents} {n : ℕ} (bs : List ℕ) (here : Option ℕ) → Numbers n here → (n ≡ 0 → ⊥) → ((k : ℕ) → here ≡ some k → first (blockCauses bs) ≡ some k) →
     (r .refusal ≡ n) × (length (r .knots) ≡ knotsMax) × (r .count ≡ 0) →
-    (Reads r (first (blockCauses bs)) (listOf bs)) × (first (blockCauses bs) ≡ none → block (listOf bs) ≡ bs)
+    (Reads r (first (blockCauses bs)) (listOf bs)) × (first (blockCauses bs) ≡ none → editionOf bs ≡ plainEdition → block (listOf bs) ≡ bs)
 stops {r} {n} bs here numbered d whole s =
     let e : here ≡ some n = failed n numbered d in (
       refuses r (first (blockCauses bs)) here (listOf bs) (rw (s .0) numbered) (rw (s .0) e) (rw (s .0) (whole n e)) (s .1) (omega (arith, s .2)),
@@ -110,16 +111,24 @@ header-quiet : (c : tie.Else2) → let bs = c .before .before .before .before .b
     first (headerCauses (getD (words bs) 0 0)) ≡ none
 header-quiet c = header-is (c .before .before) ∙ passed (c .before .number2 .ensures) (c .if2 .left)
 
-count-is : (c : tie.After-knot-count) → let bs = c .before .before .before .before .before .before .before .before .before .args .block .now in
+-- the header's fields are handed on
+edition-is : (c : tie.After-edition) → let bs = c .before .before .before .before .before .before .before .before .before .args .block .now in
+    c .edition .result ≡ edition (getD (words bs) 0 0)
+edition-is c = c .edition .ensures ∙ ap edition (c .before .before .before .before .load .ensures .0)
+
+count-is : (c : tie.After-knot-count) → let bs = c .before .before .before .before .before .before .before .before .before .before .args .block .now in
     c .knot-count .result ≡ knotCount (getD (words bs) 0 0)
-count-is c = c .knot-count .ensures ∙ ap knotCount (c .before .before .before .before .load .ensures .0)
+count-is c = c .knot-count .ensures ∙ ap knotCount (c .before .before .before .before .before .load .ensures .0)
 
 -- at most 129 knots
-counted : (c : tie.After-knot-count) → let bs = c .before .before .before .before .before .before .before .before .before .args .block .now in
+counted : (c : tie.After-knot-count) → let bs = c .before .before .before .before .before .before .before .before .before .before .args .block .now in
     knotCount (getD (words bs) 0 0) ≤ knotsMax
 counted c =
-    let w = getD (words (c .before .before .before .before .before .before .before .before .before .args .block .now)) 0 0 in
-    ltb-false knotsMax (knotCount w) (quiet (headerCauses w) (header-quiet (c .before)) .1 .0)
+    let w = getD (words (c .before .before .before .before .before .before .before .before .before .before .args .block .now)) 0 0 in
+    ltb-false knotsMax (knotCount w) (quiet (headerCauses w) (header-quiet (c .before .before)) .1 .0)
+
+edition-requires : tie.Need-edition-requires
+edition-requires c κs = search needs
 
 knot-count-requires : tie.Need-knot-count-requires
 knot-count-requires c κs = search needs
@@ -134,12 +143,14 @@ returns-3 : tie.Need-returns-3
 unfolding listOf
 returns-3 c =
     let k = c .before in
-    let e = k .before .before .before .before .before in
-    let ws = words (e .before .before .before .before .args .block .now) in (
-      read-as (length-passed e ∙ header-passed ws (header-quiet (k .before)) ∙ ap (fault ws) (sym (count-is k)))
-          (header-listed ws (header-quiet (k .before)) ∙ ap (list ws) (sym (count-is k))) (c .read-knots .ensures),
-      λ none-found. accepted-written (e .before .before .before .before .args .block .now)
-          (k .before .before .before .before .load .ensures .1 (header-there ws (header-quiet (k .before)))) none-found,
+    let h = k .before .before in
+    let e = h .before .before .before .before in
+    let ws = words (e .before .before .before .before .args .block .now) in
+    let n = sym (edition-is (k .before)) in (
+      read-as (length-passed e ∙ header-passed ws (header-quiet h) ∙ ap₂ (λ n m. fault n ws m) n (sym (count-is k)))
+          (header-listed ws (header-quiet h) ∙ ap₂ (λ n m. list n ws m) n (sym (count-is k))) (c .read-knots .ensures),
+      λ none-found plain. accepted-written (e .before .before .before .before .args .block .now)
+          (h .before .before .before .load .ensures .1 (header-there ws (header-quiet h))) none-found plain,
     )
   where
     read-as : {r : Contents} {f g : Option ℕ} {l m : List Scan} → g ≡ f → m ≡ l → Reads r f l → Reads r g m
@@ -158,6 +169,7 @@ read-spec =
     number-requires-2
     stopped-requires-2
     returns-2
+    edition-requires
     knot-count-requires
     cast-read-knots
     read-knots-requires

@@ -2,18 +2,18 @@
 use borrow.Author.Needs.{needs}
 use mathlib.Core.Bool.{true, false, true≢false}
 use mathlib.Core.List.{List}
-use mathlib.Core.Option.{none, some}
+use mathlib.Core.Option.{Option, none, some}
 use mathlib.Core.Path.{_≡_, refl, sym, _∙_, ap}
 use mir.Facts.{toZ-ofZ}
 use mir.Val.{SFits, toZ, ofZ}
 use mir.Syntax.{w32}
-use Prim.Native.Nat.{ℕ, suc, _+_, _-_, _≤_, _<_}
+use Prim.Native.Nat.{ℕ, suc, _+_, _-_, _*_, _≤_, _<_}
 use native.Mathlib.Omega.{arith}
 use lib.IntN.{ℤ}
 use lib.ListN.{length, getD, drop, set}
 use Rattle.rounding.specs.Limits.{knotsMax, gradeMax, gapMax}
 use Rattle.scans.specs.Scan.{gap, Scan}
-use Rattle.scans.specs.RefusalTable.{first}
+use Rattle.scans.specs.RefusalTable.{first, sizeCauses}
 use Rattle.knot.specs.Machine.{scan, refusal, Numbers}
 use Rattle.following.specs.Machine.{neighbour}
 use Rattle.knot.specs.declared.held.Knot.{Knot}
@@ -22,45 +22,48 @@ use Rattle.scans.proofs.Causes.{quiet, placed}
 use Rattle.knot.proofs.Numbers.{numbers, passed, failed}
 use Rattle.block.specs.Fields.{kind, position, grade, payload}
 use Rattle.block.specs.Bytes.{words}
-use Rattle.block.specs.Reading.{knotCauses, knotsCauses, knotsFrom}
+use Rattle.block.specs.Reading.{readingWords, knotCauses, readingCauses, knotsCauses, knotsFrom}
 use Rattle.block.proofs.Steps.{knot-found}
-use Rattle.block_reader.proofs.reader.Come.{fault, Come, Coefficients, refuses, none-yet, one-more, from-wrong, from-size-found, taken, ended}
+use Rattle.block_reader.proofs.reader.Come.{fault, Come, Coefficients, refuses, none-yet, one-more, next, from-wrong, from-size-found}
+use Rattle.block_reader.proofs.reader.Come.{from-readings-found, taken, ended}
 use Rattle.block_reader.proofs.reader.read_knots.Statement.{statement}
 use Rattle.block_reader.proofs.reader.read_knots.Tie as tie
 
 abbrev Inv-loop : tie.InvT-loop
-Inv-loop block count knots last k i word fault m coefficients₀ j₀ coefficients j = Coefficients (words block) i m coefficients j
+Inv-loop block edition count knots last k i word fault m coefficients₀ j₀ coefficients j = Coefficients (words block) i m coefficients j
 
 abbrev μ-loop : tie.MeasureT-loop
-μ-loop block count knots last k i word fault m coefficients₀ j₀ coefficients j = m + 1 - j
+μ-loop block edition count knots last k i word fault m coefficients₀ j₀ coefficients j = m + 1 - j
 
 abbrev Inv-words : tie.InvT-words
-Inv-words block count knots₀ last₀ k₀ i₀ knots last k i = Come (words block) count knots last k i
+Inv-words block edition count knots₀ last₀ k₀ i₀ knots last k i = Come edition (words block) count knots last k i
 
 abbrev μ-words : tie.MeasureT-words
-μ-words block count knots₀ last₀ k₀ i₀ knots last k i = count - k
+μ-words block edition count knots₀ last₀ k₀ i₀ knots last k i = count - k
 
 free-requires : tie.Need-free-requires Inv-loop μ-loop Inv-words μ-words
 free-requires c κs = search needs
 
 -- ---- nothing read yet
 
-nothing-yet : (ws : List ℕ) (count : ℕ) (knots : List Knot) (free : Knot) → length knots ≡ knotsMax →
-    Come ws count knots (record { there = false; knot = free }) 0 1
-nothing-yet ws count knots free room =
+nothing-yet : (e : ℕ) (ws : List ℕ) (count : ℕ) (knots : List Knot) (free : Knot) → length knots ≡ knotsMax →
+    Come e ws count knots (record { there = false; knot = free }) 0 1
+nothing-yet e ws count knots free room =
     let all : count ≡ count - 0 = omega arith in
     record {
       within = omega arith;
       place = omega arith;
       room = room;
       graded = λ j h. absurd (omega arith);
-      lastGraded = λ e. absurd (true≢false (sym e));
-      faults = ap (λ n. first (knotsCauses (length ws - 1) n none (drop 1 ws))) all;
-      scans = ap (λ n. knotsFrom n (drop 1 ws)) all;
+      lastGraded = λ t. absurd (true≢false (sym t));
+      faults = ap (λ n. first (knotsCauses e (length ws - 1) n none (drop 1 ws))) all;
+      scans = ap (λ n. knotsFrom e n (drop 1 ws)) all;
     }
 
 words-holds : tie.Need-words-holds Inv-loop μ-loop Inv-words μ-words
-words-holds c = nothing-yet (words (c .before .before .args .block .now)) (c .before .before .args .count) _ (c .free .result) refl
+words-holds c =
+    let a = c .before .before .args in
+    nothing-yet (a .edition) (words (a .block .now)) (a .count) _ (c .free .result) refl
 
 -- ---- a knot word is read
 
@@ -76,6 +79,9 @@ between g = g .before .before .before .before .before .before
 
 abbrev the-words : At-words → List ℕ
 the-words w = words (w .before .before .before .args .block .now)
+
+abbrev the-edition : At-words → ℕ
+the-edition w = w .before .before .before .args .edition
 
 abbrev the-count : At-words → ℕ
 the-count w = w .before .before .before .args .count
@@ -216,11 +222,11 @@ module _ (c : After-position) where
       moved : {x y : ℕ} (held : Scan) → x ≡ y → gap held y ≤ gapMax → gap held x ≤ gapMax
       moved held e h = rw e h
 
-cast-t31 : tie.Need-cast-t31 Inv-loop μ-loop Inv-words μ-words
-cast-t31 c = record { fits = omega (arith, c .position .ensures) }
+cast-t35 : tie.Need-cast-t35 Inv-loop μ-loop Inv-words μ-words
+cast-t35 c = record { fits = omega (arith, c .position .ensures) }
 
-cast-t32 : tie.Need-cast-t32 Inv-loop μ-loop Inv-words μ-words
-cast-t32 c = record { fits = omega (arith, grade-most (c .before .before .before)) }
+cast-t36 : tie.Need-cast-t36 Inv-loop μ-loop Inv-words μ-words
+cast-t36 c = record { fits = omega (arith, grade-most (c .before .before .before)) }
 
 size-cause-requires : tie.Need-size-cause-requires Inv-loop μ-loop Inv-words μ-words
 size-cause-requires c κs =
@@ -229,36 +235,72 @@ size-cause-requires c κs =
 number-requires-4 : tie.Need-number-requires-4 Inv-loop μ-loop Inv-words μ-words
 number-requires-4 c κs = search needs
 
-mul-knots : tie.Need-mul-knots Inv-loop μ-loop Inv-words μ-words
-mul-knots c = let g = c .before .before .before .before .before .before in record { fits = omega (arith, one-more-knot g, count-most g) }
+-- ---- its size is right, and its readings are counted
 
-array-set-from-knots : tie.Need-array-set-from-knots Inv-loop μ-loop Inv-words μ-words
-array-set-from-knots c = let g = c .before .before .before .before .before .before in omega (arith, one-more-knot g, count-most g)
+abbrev Sized : Type 0
+Sized = tie.Else3 Inv-loop μ-loop Inv-words μ-words
 
-add-k : tie.Need-add-k Inv-loop μ-loop Inv-words μ-words
-add-k c = let g = c .before .before .before .before .before .before in record { fits = omega (arith, one-more-knot g, count-most g) }
+abbrev all-read-at : Sized → After-position
+all-read-at c = c .before .before .before
 
-add-i : tie.Need-add-i Inv-loop μ-loop Inv-words μ-words
-add-i c = let g = c .before .before .before .before .before .before in record { fits = omega (arith, grade-most g) }
+module _ (c : Sized) where
+  sized : first (sizeCauses (neighbour (between (word-read (all-read-at c)) .words .last))
+      (scan (next (all-read-at c .position .result) (word-read (all-read-at c) .grade .result) (all-read-at c .before .before .loop .coefficients)))) ≡ none
+  sized = sym (c .before .before .size-cause .ensures) ∙ passed (c .before .number4 .ensures) (c .if3 .left)
 
-add-i-2 : tie.Need-add-i-2 Inv-loop μ-loop Inv-words μ-words
-add-i-2 c = let g = c .before .before .before .before .before .before in record
-    { fits = omega (arith, grade-most g, between g .words .inv .place, one-more-knot g, count-most g) }
+  -- where its readings start
+  abbrev start : ℕ
+  start = between (word-read (all-read-at c)) .words .i + word-read (all-read-at c) .grade .result + 2
 
-words-less : tie.Need-words-less Inv-loop μ-loop Inv-words μ-words
-words-less c = let g = c .before .before .before .before .before .before in omega (arith, one-more-knot g)
+  abbrev the-readings : List ℕ
+  the-readings = let w = between (word-read (all-read-at c)) in readingWords (the-edition w) (drop start (the-words w))
+
+  near : start ≤ 41 * knotsMax
+  near =
+      let g = word-read (all-read-at c) in
+      omega (arith, between g .words .inv .place, one-more-knot g, count-most g, grade-most g)
 
 words-again : tie.Need-words-again Inv-loop μ-loop Inv-words μ-words
 words-again c =
-    let p = c .before .before .before in
+    let r = c .before .before in
+    let p = all-read-at (r .before) in
     let g = word-read p in
     let w = between g in
-    taken (the-words w) (the-count w) (w .words .knots) (w .words .last) (w .words .k) (w .words .i) (w .words .inv) (one-more-knot g)
+    let counts = r .count-readings .ensures in
+    let quiet = passed (counts .number) (c .before .if4 .left) in
+    taken (the-edition w) (the-words w) (the-count w) (w .words .knots) (w .words .last) (w .words .k) (w .words .i) (w .words .inv) (one-more-knot g)
     (p .position .result) (g .grade .result) (p .before .before .loop .coefficients) (word-passed g) (position-is p) (grade-is g) (all-read p)
-    (count-most g) (grade-most g)
-    (sym (c .before .before .size-cause .ensures) ∙ passed (c .before .number4 .ensures) (c .if3 .left))
+    (sized (r .before)) (r .count-readings .result .count) (counts .count quiet) (count-most g) (grade-most g) (counts .few) quiet
+
+add-behind : tie.Need-add-behind Inv-loop μ-loop Inv-words μ-words
+add-behind c = record { fits = omega (arith, near c) }
+
+add-behind-2 : tie.Need-add-behind-2 Inv-loop μ-loop Inv-words μ-words
+add-behind-2 c = record { fits = omega (arith, near c) }
+
+count-readings-requires : tie.Need-count-readings-requires Inv-loop μ-loop Inv-words μ-words
+count-readings-requires c κs = omega (arith, near c)
+
+mul-knots : tie.Need-mul-knots Inv-loop μ-loop Inv-words μ-words
+mul-knots c = let g = word-read (all-read-at (c .before .before)) in record { fits = omega (arith, one-more-knot g, count-most g) }
+
+array-set-from-knots : tie.Need-array-set-from-knots Inv-loop μ-loop Inv-words μ-words
+array-set-from-knots c = let g = word-read (all-read-at (c .before .before)) in omega (arith, one-more-knot g, count-most g)
+
+add-k : tie.Need-add-k Inv-loop μ-loop Inv-words μ-words
+add-k c = let g = word-read (all-read-at (c .before .before)) in record { fits = omega (arith, one-more-knot g, count-most g) }
+
+add-i : tie.Need-add-i Inv-loop μ-loop Inv-words μ-words
+add-i c = record { fits = omega (arith, near (c .before .before .before), c .before .before .count-readings .ensures .few) }
+
+words-less : tie.Need-words-less Inv-loop μ-loop Inv-words μ-words
+words-less c = let g = word-read (all-read-at (c .before .before .before)) in omega (arith, one-more-knot g)
 
 -- ---- the first fault, or the end
+
+-- what is ahead of the words, with n knots to come
+abbrev ahead : At-words → ℕ → Option ℕ
+ahead w n = first (knotsCauses (the-edition w) (length (the-words w) - 1) n (neighbour (w .words .last)) (drop (w .words .i) (the-words w)))
 
 returns : tie.Need-returns Inv-loop μ-loop Inv-words μ-words
 returns c =
@@ -267,15 +309,15 @@ returns c =
     let come = w .words .inv in
     let all : w .words .k ≡ the-count w = omega (arith, t .if1 .taken, come .within) in
     let rest : the-count w - w .words .k ≡ 0 = omega (arith, all) in
-    let ends : fault (the-words w) (the-count w) ≡ refusal (c .before .end-fault .result) =
-    come .faults ∙ ap (λ n. first (knotsCauses (length (the-words w) - 1) n (neighbour (w .words .last)) (drop (w .words .i) (the-words w)))) rest ∙
+    let ends : fault (the-edition w) (the-words w) (the-count w) ≡ refusal (c .before .end-fault .result) =
+    come .faults ∙ ap (λ n. ahead w n) rest ∙
     sym (c .before .end-fault .ensures) in
     record {
       number = rw ends (c .number .ensures);
       room = come .room;
       count = w .before .before .before .pre;
       graded = λ q k h. come .graded k (omega (arith, all));
-      scans = λ q. ended (the-words w) (the-count w) (w .words .knots) (w .words .last) (w .words .k) (w .words .i) come all;
+      scans = λ q. ended (the-edition w) (the-words w) (the-count w) (w .words .knots) (w .words .last) (w .words .k) (w .words .i) come all;
     }
 
 returns-2 : tie.Need-returns-2 Inv-loop μ-loop Inv-words μ-words
@@ -286,9 +328,9 @@ returns-2 c =
     let come = w .words .inv in
     let e = failed (n .number2 .result) (n .number2 .ensures) (c .if2 .taken) in
     let one : the-count w - w .words .k ≡ suc (the-count w - (w .words .k + 1)) = omega (arith, l .before .if1 .left) in
-    refuses _ (fault (the-words w) (the-count w)) (refusal (n .before .knot-fault .result)) _ (n .number2 .ensures) e
-    (come .faults ∙ ap (λ m. first (knotsCauses (length (the-words w) - 1) m (neighbour (w .words .last)) (drop (w .words .i) (the-words w)))) one ∙
-    knot-found (neighbour (w .words .last)) (length (the-words w) - 1) (the-count w - (w .words .k + 1)) (the-words w) (w .words .i)
+    refuses _ (fault (the-edition w) (the-words w) (the-count w)) (refusal (n .before .knot-fault .result)) _ (n .number2 .ensures) e
+    (come .faults ∙ ap (λ m. ahead w m) one ∙
+    knot-found (the-edition w) (length (the-words w) - 1) (the-count w - (w .words .k + 1)) (neighbour (w .words .last)) (the-words w) (w .words .i)
     (sym (ap (λ u. first (knotCauses (neighbour (w .words .last)) u)) (l .load .ensures .0)) ∙ sym (n .before .knot-fault .ensures) ∙ e))
     (come .room) (w .before .before .before .pre)
 
@@ -298,8 +340,8 @@ returns-3 c =
     let g = l .before .before in
     let w = between g in
     let one = ap some (sym (c .number3 .ensures)) in
-    refuses _ (fault (the-words w) (the-count w)) (some 1) _ (numbered-form (c .number3 .ensures)) one
-    (from-wrong (the-words w) (the-count w) (w .words .knots) (w .words .last) (w .words .k) (w .words .i) (w .words .inv) (one-more-knot g)
+    refuses _ (fault (the-edition w) (the-words w) (the-count w)) (some 1) _ (numbered-form (c .number3 .ensures)) one
+    (from-wrong (the-edition w) (the-words w) (the-count w) (w .words .knots) (w .words .last) (w .words .k) (w .words .i) (w .words .inv) (one-more-knot g)
     (position (getD (the-words w) (w .words .i) 0)) (g .grade .result) (l .before .loop .coefficients) (word-passed g) refl (grade-is g)
     (l .before .loop .j) (l .before .loop .inv) (l .loop-test .taken)
     (λ e. c .before .match .rest .1 (c .before .before .kind .ensures ∙ ap kind (c .before .before .before .load2 .ensures .0) ∙ e)) ∙
@@ -316,10 +358,23 @@ returns-4 c =
     let g = word-read p in
     let w = between g in
     let e = failed (n .number4 .result) (n .number4 .ensures) (c .if3 .taken) in
-    refuses _ (fault (the-words w) (the-count w)) (refusal (n .before .size-cause .result)) _ (n .number4 .ensures) e
-    (from-size-found (the-words w) (the-count w) (w .words .knots) (w .words .last) (w .words .k) (w .words .i) (w .words .inv) (one-more-knot g)
-    (p .position .result) (g .grade .result) (p .before .before .loop .coefficients) (word-passed g) (position-is p) (grade-is g) (all-read p)
+    refuses _ (fault (the-edition w) (the-words w) (the-count w)) (refusal (n .before .size-cause .result)) _ (n .number4 .ensures) e
+    (from-size-found (the-edition w) (the-words w) (the-count w) (w .words .knots) (w .words .last) (w .words .k) (w .words .i) (w .words .inv)
+    (one-more-knot g) (p .position .result) (g .grade .result) (p .before .before .loop .coefficients) (word-passed g) (position-is p) (grade-is g) (all-read p)
     (sym (n .before .size-cause .ensures) ∙ e))
+    (w .words .inv .room) (count-most g)
+
+returns-5 : tie.Need-returns-5 Inv-loop μ-loop Inv-words μ-words
+returns-5 c =
+    let r = c .before in
+    let p = all-read-at (r .before) in
+    let g = word-read p in
+    let w = between g in
+    let h = failed (r .count-readings .result .refusal) (r .count-readings .ensures .number) (c .if4 .taken) in
+    refuses _ (fault (the-edition w) (the-words w) (the-count w)) (first (readingCauses 0 (the-readings (r .before)))) _ (r .count-readings .ensures .number) h
+    (from-readings-found (the-edition w) (the-words w) (the-count w) (w .words .knots) (w .words .last) (w .words .k) (w .words .i) (w .words .inv)
+    (one-more-knot g) (p .position .result) (g .grade .result) (p .before .before .loop .coefficients) (word-passed g) (position-is p) (grade-is g)
+    (all-read p) (sized (r .before)) h)
     (w .words .inv .room) (count-most g)
 
 pub read-knots-spec : {M : Type 1} → statement M
@@ -352,18 +407,21 @@ read-knots-spec =
     loop-less
     loop-again
     position-requires
-    cast-t31
-    cast-t32
+    cast-t35
+    cast-t36
     size-cause-requires
     number-requires-4
+    add-behind
+    add-behind-2
+    count-readings-requires
     mul-knots
     array-set-from-knots
     add-k
     add-i
-    add-i-2
     words-less
     words-again
     returns
     returns-2
     returns-3
-    returns-4)
+    returns-4
+    returns-5)

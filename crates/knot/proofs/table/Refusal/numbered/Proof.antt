@@ -33,10 +33,17 @@ returns-9 : tie.Need-returns-9
 returns-9 c = search needs
 
 returns-10 : tie.Need-returns-10
-returns-10 c =
+returns-10 c = search needs
+
+returns-11 : tie.Need-returns-11
+returns-11 c = search needs
+
+returns-12 : tie.Need-returns-12
+returns-12 c =
     let r = c .match .rest in
-    let above : 5 ≤ c .before .args .n =
-    omega (arith, c .before .pre .0, r .0 .0 .0 .0 .0 .0 .0 .0 .1, r .0 .0 .0 .0 .0 .0 .0 .1, r .0 .0 .0 .0 .0 .0 .1, r .0 .0 .0 .0 .0 .1) in
+    let low = r .0 .0 .0 .0 .0 in
+    let above : 7 ≤ c .before .args .n =
+    omega (arith, c .before .pre .0, low .0 .0 .0 .0 .0 .1, low .0 .0 .0 .0 .1, low .0 .0 .0 .1, low .0 .0 .1, low .0 .1, low .1) in
     omega (arith, above, c .before .pre .1, r .0 .0 .0 .0 .1, r .0 .0 .0 .1, r .0 .0 .1, r .0 .1, r .1)
 
 pub numbered-spec : {M : Type 1} → statement M
@@ -52,4 +59,6 @@ numbered-spec =
     returns-7
     returns-8
     returns-9
-    returns-10)
+    returns-10
+    returns-11
+    returns-12)

@@ -29,7 +29,7 @@ returns c =
     let b = m .before .before .before .before in (
       refuses (read (b .args .bytes .now)) (b .args .self) (m .numbered .result) (c .refused .result) (b .pre) (c .refused .ensures)
           (failed (n .result .refusal) (n .ensures .0 .number) (m .before .if1 .taken) ∙ ap some (sym (m .numbered .ensures))),
-      λ ok. cc (sym (ap replyOf (c .refused .ensures .1)) ∙ ok),
+      λ ok plain. cc (sym (ap replyOf (c .refused .ensures .1)) ∙ ok),
     )
 
 returns-2 : tie.Need-returns-2
@@ -41,7 +41,7 @@ returns-2 c =
     scans-of (n .result .knots) (n .result .count) ∙ n .ensures .0 .scans quiet in (
       accepts (read (b .args .bytes .now)) (b .args .self) _ (b .pre) quiet refl refl refl list
           (n .ensures .0 .room) (n .ensures .0 .count) (n .ensures .0 .graded quiet),
-      λ ok. ap block list ∙ n .ensures .1 quiet,
+      λ ok plain. ap block list ∙ n .ensures .1 quiet plain,
     )
 
 pub read-spec : {M : Type 1} → statement M

@@ -10,7 +10,7 @@ use mir.Syntax.{w64}
 use mir.Val.{toZ}
 use mir.Facts.{toZ-pos}
 use Rattle.knot.specs.declared.table.Refusal.the-variants as Refusals
-use Rattle.block.specs.Block.{block, blockMax, written}
+use Rattle.block.specs.Block.{block, writtenMax, written}
 use Rattle.block.proofs.Written.{block-length}
 use Rattle.calls.specs.Calls.{write}
 use Rattle.reel.specs.Machine.{scans}
@@ -53,7 +53,7 @@ returns-2 c =
     let n = c .before .before .write in
     let are = sym (scans-of (r .knots) (r .count)) in
     let size : n .result ≡ length (block (scans r)) = n .ensures .0 ∙ ap (λ s. length (block s)) are in
-    let most : length (block (scans r)) ≤ blockMax = block-length (scans r) (b .pre .standing) in
+    let most : length (block (scans r)) ≤ writtenMax = block-length (scans r) (b .pre .standing) in
     let room : length (block (scans r)) ≤ length (b .args .out .now) =
     omega (arith, e .if1 .left, e .before .length .ensures, ap (λ s. length (block s)) are) in
     answers (write (b .args .out .now)) r (toZ w64 (n .result)) (pos (length (block (scans r)))) _ (b .pre)

@@ -1,0 +1,3 @@
+mod Strided
+mod Types
+mod Walks
