@@ -4,13 +4,12 @@ use mathlib.Core.Option.{Option, none}
 use mathlib.Core.Path.{_≡_}
 use Prim.Native.Nat.{ℕ, _-_, _≤_, _<_}
 use lib.ListN.{length, drop}
-use Rattle.rounding.specs.Limits.{knotsMax, readingsMax}
+use Rattle.rounding.specs.Limits.{knotsMax}
 use Rattle.scans.specs.Scan.{Scan}
 use Rattle.scans.specs.RefusalTable.{first}
-use Rattle.block.specs.Reading.{readingCauses, knotsCauses, knotsFrom}
+use Rattle.block.specs.Reading.{knotsCauses, knotsFrom}
 use Rattle.knot.specs.Machine.{Graded, Numbers, knotIn, scansIn}
 use Rattle.block_reader.specs.declared.reader.Contents.{Contents}
-use Rattle.block_reader.specs.declared.readings.Counted.{Counted}
 
 -- of the first fault, if there is one, its number; if there is none, the list
 pub record Reads (r : Contents) (fault : Option ℕ) (list : List Scan) : Type 0 where
@@ -25,9 +24,3 @@ pub record Reads (r : Contents) (fault : Option ℕ) (list : List Scan) : Type 0
 abbrev pub ReadsKnots : Contents → ℕ → ℕ → List ℕ → Type 0
 ReadsKnots r e count ws =
     Reads r (first (knotsCauses e (length ws - 1) count none (drop 1 ws))) (knotsFrom e count (drop 1 ws))
-
--- of a knot's reading words the number of the first fault, if there is one; if there is none, how many they are
-pub record Counts (r : Counted) (ws : List ℕ) : Type 0 where
-  pub number : Numbers (r .refusal) (first (readingCauses 0 ws))
-  pub count : first (readingCauses 0 ws) ≡ none → r .count ≡ length ws
-  pub few : r .count ≤ readingsMax

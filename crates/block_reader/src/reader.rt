@@ -9,11 +9,6 @@ ghost use Rattle.block.specs.Bytes.{words};
 ghost use Rattle.block.specs.Block.{block as Block·block, plainEdition};
 ghost use Rattle.block.specs.Reading.{blockCauses, editionOf, listOf};
 ghost use Rattle.block_reader.specs.Machine.{Reads, ReadsKnots};
-use crate::faults::end_fault;
-use crate::faults::header_fault;
-use crate::faults::knot_fault;
-use crate::faults::length_fault;
-use crate::readings::count_readings;
 use following::Neighbour;
 use following::size_cause;
 use knot::COEFFICIENTS_MAX;
@@ -27,6 +22,11 @@ use word::knot_count;
 use word::load;
 use word::payload;
 use word::position;
+use word_faults::count_readings;
+use word_faults::end_fault;
+use word_faults::header_fault;
+use word_faults::knot_fault;
+use word_faults::length_fault;
 
 // The number of the first fault, 0 where there is none; then the first `count` knots are the list.
 pub struct Contents {

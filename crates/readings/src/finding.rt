@@ -8,12 +8,12 @@ ghost use Rattle.block.specs.Bytes.{words};
 ghost use Rattle.block.specs.Reading.{blockCauses, listOf};
 ghost use Rattle.block.specs.View.{readingsOf};
 ghost use Rattle.readings.specs.Machine.{Selects, Spans, readingShown, strided};
-use block_reader::count_readings;
 use knot::Refusal;
 use word::edition;
 use word::grade;
 use word::load;
 use word::reading;
+use word_faults::count_readings;
 
 // The word of a knot's first reading, and how many readings it has.
 struct Span {

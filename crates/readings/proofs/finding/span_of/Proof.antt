@@ -18,8 +18,8 @@ use Rattle.block.specs.View.{readingsFrom, readingsOf}
 use Rattle.block.proofs.Reading.{Taken, taken, Accepted, accepted}
 use Rattle.block.proofs.RoundTrips.{knots-count}
 use Rattle.block.proofs.View.{readings-first, knot-there}
-use Rattle.block_reader.specs.Machine.{Counts}
-use Rattle.block_reader.specs.declared.readings.Counted.{Counted}
+use Rattle.word_faults.specs.Machine.{Counts}
+use Rattle.word_faults.specs.declared.readings.Counted.{Counted}
 use Rattle.readings.specs.Machine.{Spans}
 use Rattle.readings.proofs.finding.span_of.Statement.{statement}
 use Rattle.readings.proofs.finding.span_of.Tie as tie

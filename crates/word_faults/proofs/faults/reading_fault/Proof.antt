@@ -1,4 +1,4 @@
--- `block_reader::faults::reading_fault` meets its contract.
+-- `word_faults::faults::reading_fault` meets its contract.
 use borrow.Author.Needs.{needs}
 use borrow.Author.Tests.{eq-eqb, ne-eqb, lt-ltb, le-ltb}
 use mathlib.Core.List.{[]}
@@ -8,8 +8,8 @@ use native.Mathlib.Omega.{arith}
 use Rattle.rounding.specs.Limits.{readingsMax}
 use Rattle.block.specs.Fields.{readingSpare}
 use Rattle.block.proofs.Steps.{reading-form}
-use Rattle.block_reader.proofs.faults.reading_fault.Statement.{statement}
-use Rattle.block_reader.proofs.faults.reading_fault.Tie as tie
+use Rattle.word_faults.proofs.faults.reading_fault.Statement.{statement}
+use Rattle.word_faults.proofs.faults.reading_fault.Tie as tie
 
 returns : tie.Need-returns
 returns c =

@@ -1,4 +1,4 @@
--- `block_reader::readings::count_readings` meets its contract.
+-- `word_faults::readings::count_readings` meets its contract.
 use borrow.Author.Needs.{needs}
 use borrow.Author.Tests.{eq-eqb, ltb-false, not-true, not-false}
 use mathlib.Core.Bool.{true, false}
@@ -18,10 +18,10 @@ use Rattle.block.specs.Bytes.{words}
 use Rattle.block.specs.Block.{readingsEdition}
 use Rattle.block.specs.Reading.{isReading, leadingReadings, readingCauses, readingWords}
 use Rattle.block.proofs.Steps.{other-edition, no-reading, one-reading}
-use Rattle.block_reader.specs.Machine.{Counts}
-use Rattle.block_reader.specs.declared.readings.Counted.{Counted}
-use Rattle.block_reader.proofs.readings.count_readings.Statement.{statement}
-use Rattle.block_reader.proofs.readings.count_readings.Tie as tie
+use Rattle.word_faults.specs.Machine.{Counts}
+use Rattle.word_faults.specs.declared.readings.Counted.{Counted}
+use Rattle.word_faults.proofs.readings.count_readings.Statement.{statement}
+use Rattle.word_faults.proofs.readings.count_readings.Tie as tie
 
 -- so many readings are counted: what the definition gives of all is what it gives from here
 record Come (ws : List ℕ) (from count : ℕ) : Type 0 where

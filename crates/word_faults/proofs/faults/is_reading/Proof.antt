@@ -1,10 +1,10 @@
--- `block_reader::faults::is_reading` meets its contract.
+-- `word_faults::faults::is_reading` meets its contract.
 use borrow.Author.Needs.{needs}
 use borrow.Author.Tests.{eq-eqb, ne-eqb}
 use mathlib.Core.Path.{refl, sym, _∙_}
 use Rattle.block.specs.Fields.{kind}
-use Rattle.block_reader.proofs.faults.is_reading.Statement.{statement}
-use Rattle.block_reader.proofs.faults.is_reading.Tie as tie
+use Rattle.word_faults.proofs.faults.is_reading.Statement.{statement}
+use Rattle.word_faults.proofs.faults.is_reading.Tie as tie
 
 returns : tie.Need-returns
 returns c =

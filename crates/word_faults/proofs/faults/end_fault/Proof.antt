@@ -1,4 +1,4 @@
--- `block_reader::faults::end_fault` meets its contract.
+-- `word_faults::faults::end_fault` meets its contract.
 use borrow.Author.Needs.{needs}
 use borrow.Author.Tests.{eq-eqb, ne-eqb}
 use mathlib.Core.List.{List, [], _∷_}
@@ -12,8 +12,8 @@ use Rattle.block.specs.Fields.{kind, wordsBefore}
 use Rattle.block.specs.Bytes.{words}
 use Rattle.block.proofs.Bytes.{length-words}
 use Rattle.block.specs.Reading.{endCauses}
-use Rattle.block_reader.proofs.faults.end_fault.Statement.{statement}
-use Rattle.block_reader.proofs.faults.end_fault.Tie as tie
+use Rattle.word_faults.proofs.faults.end_fault.Statement.{statement}
+use Rattle.word_faults.proofs.faults.end_fault.Tie as tie
 
 -- ---- the last word stands in place k, or it does not
 

@@ -3,7 +3,7 @@ ghost use Prim.Native.Nat.{_^_, _<_};
 ghost use lib.ListN.{drop};
 ghost use Rattle.block.specs.Bytes.{words};
 ghost use Rattle.block.specs.Reading.{readingWords};
-ghost use Rattle.block_reader.specs.Machine.{Counts};
+ghost use Rattle.word_faults.specs.Machine.{Counts};
 use crate::faults::is_reading;
 use crate::faults::reading_fault;
 use block::READINGS_EDITION;

@@ -1,10 +1,10 @@
--- `block_reader::faults::is_edition` meets its contract.
+-- `word_faults::faults::is_edition` meets its contract.
 use borrow.Author.Needs.{needs}
 use borrow.Author.Tests.{eq-eqb, ne-eqb}
 use mathlib.Core.Path.{refl}
 use Rattle.block.specs.Block.{plainEdition}
-use Rattle.block_reader.proofs.faults.is_edition.Statement.{statement}
-use Rattle.block_reader.proofs.faults.is_edition.Tie as tie
+use Rattle.word_faults.proofs.faults.is_edition.Statement.{statement}
+use Rattle.word_faults.proofs.faults.is_edition.Tie as tie
 
 returns : tie.Need-returns
 returns c = rw (eq-eqb (c .before .args .edition) plainEdition (c .if1 .taken)) refl

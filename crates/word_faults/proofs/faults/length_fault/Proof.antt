@@ -1,9 +1,9 @@
--- `block_reader::faults::length_fault` meets its contract.
+-- `word_faults::faults::length_fault` meets its contract.
 use borrow.Author.Tests.{eq-eqb, ne-eqb, lt-ltb, le-ltb}
 use mathlib.Core.Path.{refl}
 use Prim.Native.Nat.{_%_}
-use Rattle.block_reader.proofs.faults.length_fault.Statement.{statement}
-use Rattle.block_reader.proofs.faults.length_fault.Tie as tie
+use Rattle.word_faults.proofs.faults.length_fault.Statement.{statement}
+use Rattle.word_faults.proofs.faults.length_fault.Tie as tie
 
 returns : tie.Need-returns
 returns c = rw (ne-eqb (c .before .args .length % 4) 0 (c .if1 .taken)) refl

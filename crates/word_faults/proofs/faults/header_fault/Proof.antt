@@ -1,4 +1,4 @@
--- `block_reader::faults::header_fault` meets its contract.
+-- `word_faults::faults::header_fault` meets its contract.
 use borrow.Author.Needs.{needs}
 use borrow.Author.Tests.{eq-eqb, ne-eqb, lt-ltb, le-ltb, not-true, not-false}
 use mathlib.Core.Bool.{true}
@@ -11,8 +11,8 @@ use Rattle.scans.specs.RefusalTable.{first, tooMany}
 use Rattle.block.specs.Fields.{kind, edition, headerSpare, knotCount}
 use Rattle.block.specs.Reading.{isEdition, headerCauses}
 use Rattle.block.proofs.Steps.{header-form}
-use Rattle.block_reader.proofs.faults.header_fault.Statement.{statement}
-use Rattle.block_reader.proofs.faults.header_fault.Tie as tie
+use Rattle.word_faults.proofs.faults.header_fault.Statement.{statement}
+use Rattle.word_faults.proofs.faults.header_fault.Tie as tie
 
 -- kind 0, then an edition that is read, then no spare bits
 is-kind : (c : tie.At-match-keys1) → kind (c .before .before .args .word) ≡ 0

@@ -1,4 +1,4 @@
--- `block_reader::faults::knot_fault` meets its contract.
+-- `word_faults::faults::knot_fault` meets its contract.
 use borrow.Author.Needs.{needs}
 use borrow.Author.Tests.{eq-eqb, ne-eqb}
 use mathlib.Core.Path.{_≡_, refl, sym, _∙_, ap}
@@ -7,8 +7,8 @@ use Rattle.following.specs.Machine.{neighbour}
 use Rattle.block.specs.Fields.{kind, knotSpare, position}
 use Rattle.block.specs.Reading.{knotCauses}
 use Rattle.block.proofs.Steps.{knot-form}
-use Rattle.block_reader.proofs.faults.knot_fault.Statement.{statement}
-use Rattle.block_reader.proofs.faults.knot_fault.Tie as tie
+use Rattle.word_faults.proofs.faults.knot_fault.Statement.{statement}
+use Rattle.word_faults.proofs.faults.knot_fault.Tie as tie
 
 kind-requires : tie.Need-kind-requires
 kind-requires c κs = search needs
