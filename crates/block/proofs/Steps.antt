@@ -74,14 +74,15 @@ module _ (e b r : ℕ) where
     knot-passed (w ∷ ws) zero h = ap first (in-order last w ws) ∙ first-later (knotCauses last w) (afterWord last (position w) (grade w) ws) h
     knot-passed (w ∷ ws) (suc i) h = knot-passed ws i h
 
-    pub knot-listed : (ws : List ℕ) (i : ℕ) → first (knotCauses last (getD ws i 0)) ≡ none →
-        let w = getD ws i 0 in
-        let rest = drop (suc i) ws in
-        knotsFrom e (suc r) (drop i ws) ≡ scanFrom w rest ∷ knotsFrom e r (afterReadings e (behind w rest))
-    knot-listed [] zero h = absurd (Option·some-ne-none _ h)
-    knot-listed [] (suc i) h = absurd (Option·some-ne-none _ h)
-    knot-listed (w ∷ ws) zero h = refl
-    knot-listed (w ∷ ws) (suc i) h = knot-listed ws i h
+-- the list has its scan next
+pub knot-listed : (e r : ℕ) (last : Option Scan) (ws : List ℕ) (i : ℕ) → first (knotCauses last (getD ws i 0)) ≡ none →
+    let w = getD ws i 0 in
+    let rest = drop (suc i) ws in
+    knotsFrom e (suc r) (drop i ws) ≡ scanFrom w rest ∷ knotsFrom e r (afterReadings e (behind w rest))
+knot-listed e r last [] zero h = absurd (Option·some-ne-none _ h)
+knot-listed e r last [] (suc i) h = absurd (Option·some-ne-none _ h)
+knot-listed e r last (w ∷ ws) zero h = refl
+knot-listed e r last (w ∷ ws) (suc i) h = knot-listed e r last ws i h
 
 -- ---- a coefficient word is due
 

@@ -9,7 +9,7 @@ use native.Mathlib.Nat.{mod-lt}
 use native.Mathlib.Omega.{arith}
 use lib.ListN.{length, length-append, length-map, length-drop}
 use lib.Seq.{append-snoc, getD-append-seam}
-use Rattle.rounding.specs.Limits.{knotsMax, readingsMax}
+use Rattle.rounding.specs.Limits.{knotsMax, gradeMax, readingsMax}
 use Rattle.rounding.specs.Size.{Listed}
 use Rattle.scans.specs.Scan.{Scan, scanOf, before}
 use Rattle.scans.specs.Standing.{Standing}
@@ -82,7 +82,11 @@ read-standing bs e =
     rw (a .wordsAre) (knots-standing (edition (a .head)) (length (a .others)) (knotCount (a .head)) [] none (a .others) standing-none refl
     (omega (arith, a .header .count)) (a .knots))
 
--- ---- the bytes of an accepted block: a knot has at most 32 readings besides
+-- ---- the bytes of an accepted block
+
+-- the words that a knot takes at most: its own, its coefficients and its readings
+abbrev pub knotWordsMax : ℕ
+knotWordsMax = 1 + (gradeMax + 1) + readingsMax
 
 readings-few : (count : ℕ) (ws : List ℕ) → count ≤ readingsMax → Quiet (readingCauses count ws) → count + length ws ≤ readingsMax
 readings-few count [] h q = omega arith
@@ -93,10 +97,10 @@ end-length b [] q = absurd (true≢false (q .0))
 end-length b (w ∷ []) q = refl
 end-length b (w ∷ v ∷ over) q = absurd (true≢false (q .0))
 
-accepted-words : (e b n : ℕ) (last : Option Scan) (ws : List ℕ) → Quiet (knotsCauses e b n last ws) → length ws ≤ 41 * n + 1
-accepted-words e b zero last ws q = omega (arith, end-length b ws q)
-accepted-words e b (suc n) last [] q = omega arith
-accepted-words e b (suc n) last (w ∷ ws) q =
+words-most : (e b n : ℕ) (last : Option Scan) (ws : List ℕ) → Quiet (knotsCauses e b n last ws) → length ws ≤ knotWordsMax * n + 1
+words-most e b zero last ws q = omega (arith, end-length b ws q)
+words-most e b (suc n) last [] q = omega arith
+words-most e b (suc n) last (w ∷ ws) q =
     let t : Taken e b n last w ws = taken e b n last w ws q in
     omega (
       arith,
@@ -104,7 +108,7 @@ accepted-words e b (suc n) last (w ∷ ws) q =
       mod-lt (w / 2 ^ 16) {m = 2 ^ 3} (omega arith),
       length-drop (length (readingWords e (behind w ws))) (behind w ws),
       readings-few 0 (readingWords e (behind w ws)) (omega arith) (t .readings),
-      accepted-words e b n (some (scanFrom w ws)) (afterReadings e (behind w ws)) (t .later),
+      words-most e b n (some (scanFrom w ws)) (afterReadings e (behind w ws)) (t .later),
     )
 
 pub accepted-length : (bs : List ℕ) → first (blockCauses bs) ≡ none → length bs ≤ blockMax
@@ -116,5 +120,5 @@ accepted-length bs h =
       ap length (a .wordsAre),
       a .bytesFit,
       a .header .count,
-      accepted-words (edition (a .head)) (length (a .others)) (knotCount (a .head)) none (a .others) (a .knots),
+      words-most (edition (a .head)) (length (a .others)) (knotCount (a .head)) none (a .others) (a .knots),
     )

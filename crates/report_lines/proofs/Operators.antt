@@ -16,15 +16,15 @@ use Rattle.block.proofs.Operators.{alike-lists}
 use Rattle.report_lines.specs.Report.{reportCauses, reported, reportOf}
 
 -- the report of an accepted block looks at its list alone
-abbrev told : List Scan → List ℕ
-told scans = reported (first (tooFew (length scans) ∷ [])) scans
+abbrev listReport : List Scan → List ℕ
+listReport scans = reported (first (tooFew (length scans) ∷ [])) scans
 
-accepted-told : (bytes : List ℕ) → first (blockCauses bytes) ≡ none → reportOf bytes ≡ told (listOf bytes)
+accepted-report : (bytes : List ℕ) → first (blockCauses bytes) ≡ none → reportOf bytes ≡ listReport (listOf bytes)
 unfolding reportCauses reportOf
-accepted-told bytes quiet =
+accepted-report bytes quiet =
     rw (le-ltb blockMax (length bytes) (accepted-length bytes quiet))
     (ap (λ found. reported found (listOf bytes)) (first-later (blockCauses bytes) (tooFew (length (listOf bytes)) ∷ []) quiet))
 
 pub alike-reports : (bytes others : List ℕ) → Alike bytes others → reportOf bytes ≡ reportOf others
 alike-reports bytes others alike =
-    accepted-told bytes (alike .oneAccepted) ∙ ap told (alike-lists bytes others alike) ∙ sym (accepted-told others (alike .otherAccepted))
+    accepted-report bytes (alike .oneAccepted) ∙ ap listReport (alike-lists bytes others alike) ∙ sym (accepted-report others (alike .otherAccepted))

@@ -22,6 +22,7 @@ use Rattle.block.specs.Fields.{kind, position, grade, payload}
 use Rattle.block.specs.Reading.{readingWords, afterReadings, knotCauses, coefficientCauses, readingCauses, knotsCauses, knotsFrom}
 use Rattle.block_reader.specs.Machine.{Reads}
 use Rattle.block_reader.specs.declared.reader.Contents.{Contents}
+use Rattle.block.proofs.Written.{knotWordsMax}
 use Rattle.block.proofs.Steps.{readingsOn, sizeOn, afterWord, knot-passed, knot-listed, coefficient-right, coefficient-wrong, coefficient-there}
 
 -- the first fault of the knots, and their list
@@ -34,7 +35,7 @@ list e ws count = knotsFrom e count (drop 1 ws)
 -- k knots are read, and word i is the next: what the definition gives of the whole is what it gives from here
 pub record Come (e : ℕ) (ws : List ℕ) (count : ℕ) (knots : List Knot) (last : Neighbour) (k i : ℕ) : Type 0 where
   pub within : k ≤ count
-  pub place : i ≤ 41 * k + 1
+  pub place : i ≤ knotWordsMax * k + 1
   pub room : length knots ≡ knotsMax
   pub graded : (j : ℕ) → j < k → Graded (knotIn knots j)
   pub lastGraded : last .there ≡ true → Graded (last .knot)
@@ -122,7 +123,7 @@ module _ (e : ℕ) (ws : List ℕ) (count : ℕ) (knots : List Knot) (last : Nei
       let to : ℕ → ℕ → List ℕ → List Scan =
       λ y n rest. scansIn k knots ++ scanOf y (map payload (take (n + 1) rest)) ∷ knotsFrom e more (afterReadings e (drop (n + 1) rest)) in
       come .scans ∙ ap (λ n. scansIn k knots ++ knotsFrom e n (drop i ws)) one-left ∙
-      ap (λ l. scansIn k knots ++ l) (knot-listed e end more (neighbour last) ws i passed) ∙
+      ap (λ l. scansIn k knots ++ l) (knot-listed e more (neighbour last) ws i passed) ∙
       ap₂ (λ y n. to y n (drop (suc i) ws)) (sym x-is) (sym m-is) ∙ ap (λ a. to x m (drop a ws)) (sym (add-one i))
 
   -- a word that is no coefficient word

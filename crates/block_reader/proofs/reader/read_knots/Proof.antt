@@ -24,6 +24,7 @@ use Rattle.block.specs.Fields.{kind, position, grade, payload}
 use Rattle.block.specs.Bytes.{words}
 use Rattle.block.specs.Reading.{readingWords, knotCauses, readingCauses, knotsCauses, knotsFrom}
 use Rattle.block.proofs.Steps.{knot-found}
+use Rattle.block.proofs.Written.{knotWordsMax}
 use Rattle.block_reader.proofs.reader.Come.{fault, Come, Coefficients, refuses, none-yet, one-more, next, from-wrong, from-size-found}
 use Rattle.block_reader.proofs.reader.Come.{from-readings-found, taken, ended}
 use Rattle.block_reader.proofs.reader.read_knots.Statement.{statement}
@@ -255,7 +256,7 @@ module _ (c : Sized) where
   abbrev the-readings : List ℕ
   the-readings = let w = between (word-read (all-read-at c)) in readingWords (the-edition w) (drop start (the-words w))
 
-  near : start ≤ 41 * knotsMax
+  near : start ≤ knotWordsMax * knotsMax
   near =
       let g = word-read (all-read-at c) in
       omega (arith, between g .words .inv .place, one-more-knot g, count-most g, grade-most g)

@@ -18,6 +18,7 @@ use Rattle.block.specs.View.{readingsFrom, readingsOf}
 use Rattle.block.proofs.Reading.{Taken, taken, Accepted, accepted}
 use Rattle.block.proofs.RoundTrips.{knots-count}
 use Rattle.block.proofs.View.{readings-first, knot-there}
+use Rattle.block.proofs.Written.{knotWordsMax}
 use Rattle.word_faults.specs.Machine.{Counts}
 use Rattle.word_faults.specs.declared.readings.Counted.{Counted}
 use Rattle.readings.specs.Machine.{Spans}
@@ -27,7 +28,7 @@ use Rattle.readings.proofs.finding.span_of.Tie as tie
 -- j knots are passed, in a block of n knots, and the word of the next is i: no fault is ahead, and the readings looked for are those from here
 record Come (e : ℕ) (ws : List ℕ) (n k j i : ℕ) : Type 0 where
   within : j ≤ k
-  place : i ≤ 41 * j + 1
+  place : i ≤ knotWordsMax * j + 1
   last : Option Scan
   quiet : Quiet (knotsCauses e (length ws - 1) (n - j) last (drop i ws))
   readings : getD (readingsFrom e n (drop 1 ws)) k [] ≡ getD (readingsFrom e (n - j) (drop i ws)) (k - j) []
@@ -67,7 +68,7 @@ module _ (e : ℕ) (ws : List ℕ) (n k j i : ℕ) (come : Come e ws n k j i) (h
   low : m ≤ gradeMax
   low = omega (arith, m-is, mod-lt (w / 2 ^ 16) {m = 2 ^ 3} (omega arith))
 
-  near : i + m + 2 ≤ 41 * knotsMax
+  near : i + m + 2 ≤ knotWordsMax * knotsMax
   near = omega (arith, come .place, come .within, low)
 
   -- so many readings are counted behind it
@@ -174,7 +175,7 @@ module _ (c : tie.After-grade Inv-loop μ-loop) where
   grade-is : c .grade .result ≡ grade (getD the-words (at .loop .i) 0)
   grade-is = c .grade .ensures ∙ ap grade (c .before .load2 .ensures .0)
 
-  start-near : at .loop .i + c .grade .result + 2 ≤ 41 * knotsMax
+  start-near : at .loop .i + c .grade .result + 2 ≤ knotWordsMax * knotsMax
   start-near = near (begin .edition .result) the-words count (begin .before .before .before .args .k) (at .loop .j) (at .loop .i) (at .loop .inv)
       (the-block-of begin .there) (the-block-of begin .most) (c .grade .result) grade-is
 
