@@ -4,6 +4,7 @@ pub mod Taylor
 pub mod Water
 pub mod Length
 pub mod Slope
+pub mod RunningSums
 pub mod SumK
 pub mod At
 pub mod HalfSum
