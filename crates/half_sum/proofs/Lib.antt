@@ -1,3 +1,2 @@
-pub mod Terms
-pub mod Tables
-pub mod Rows
+pub mod RunningSums
+pub mod Parts

@@ -1,10 +1,9 @@
-// Half-sums in machine integers: the sums of step 1 and the three steps.
+// Half-sums in machine integers: rounds of running sums, and the steps.
+mod running;
 mod steps;
-mod sums;
-mod table;
 
+pub use running::rounds;
 pub use steps::VALUE_UNIT;
-pub use steps::half_sum;
-pub use steps::lower_half_sum;
-pub use sums::weighted;
-pub use table::binomials;
+pub use steps::lower_step_3;
+pub use steps::lower_steps_1_and_2;
+pub use steps::steps_1_and_2;

@@ -1,4 +1,4 @@
--- Arrays of weights: filled from the front by a loop, one entry a turn; and how large their entries are.
+-- Arrays of weights: replaced from the front by a loop, one entry a turn; and how large their entries are.
 use mathlib.Core.Path.{_≡_, refl, sym, _∙_}
 use mathlib.Core.List.{List}
 use Prim.Native.Nat.{ℕ, _+_, _*_, _≤_, _<_}
@@ -14,32 +14,32 @@ use Rattle.hermite.specs.Slope.{primed}
 use Rattle.rounding.proofs.Bounds.{primed-within}
 use Rattle.knot_weights.specs.Machine.{Lists, Weights, zeros}
 
--- w holds f below k, and from k on still 0
-pub record Filled (w : List ℤ) (f : ℕ → ℤ) (k : ℕ) : Type 0 where
+-- of an array that held v, w holds f below k, and from k on still v
+pub record Replaced (w : List ℤ) (v f : ℕ → ℤ) (k : ℕ) : Type 0 where
   pub count : 8 ≡ length w
   pub done : (j : ℕ) → j < k → coefficient w j ≡ f j
-  pub left : (j : ℕ) → k ≤ j → j ≤ 7 → coefficient w j ≡ pos 0
+  pub left : (j : ℕ) → k ≤ j → j ≤ 7 → coefficient w j ≡ v j
 
-pub filled-zeros : (f : ℕ → ℤ) → Filled zeros f 0
-filled-zeros f = record { count = refl; done = λ j h. absurd (omega arith); left = λ j h b. getD-replicate 8 j (pos 0) (pos 0) (omega arith) }
+pub replaced-zeros : (f : ℕ → ℤ) → Replaced zeros (λ j. pos 0) f 0
+replaced-zeros f = record { count = refl; done = λ j h. absurd (omega arith); left = λ j h b. getD-replicate 8 j (pos 0) (pos 0) (omega arith) }
 
-pub filled-more : {w : List ℤ} {f : ℕ → ℤ} {k : ℕ} (x : ℤ) → Filled w f k → k ≤ 7 → x ≡ f k → Filled (set w k x) f (k + 1)
-filled-more {w} {f} {k} x filled h e = record {
-  count = filled .count ∙ sym (length-set w k x);
+pub replaced-more : {w : List ℤ} {v f : ℕ → ℤ} {k : ℕ} (x : ℤ) → Replaced w v f k → k ≤ 7 → x ≡ f k → Replaced (set w k x) v f (k + 1)
+replaced-more {w} {v} {f} {k} x replaced h e = record {
+  count = replaced .count ∙ sym (length-set w k x);
   done = λ j b. go j b (ℕ-discrete j k);
-  left = λ j b c. getD-set-other w k j x (pos 0) (omega arith) ∙ filled .left j (omega arith) c;
+  left = λ j b c. getD-set-other w k j x (pos 0) (omega arith) ∙ replaced .left j (omega arith) c;
 }
   where
     go : (j : ℕ) → j < k + 1 → Dec (j ≡ k) → coefficient (set w k x) j ≡ f j
-    go j b (yes z) = rw z (getD-set-same w k x (pos 0) (omega (arith, filled .count)) ∙ e)
-    go j b (no z) = getD-set-other w k j x (pos 0) z ∙ filled .done j (omega arith)
+    go j b (yes z) = rw z (getD-set-same w k x (pos 0) (omega (arith, replaced .count)) ∙ e)
+    go j b (no z) = getD-set-other w k j x (pos 0) z ∙ replaced .done j (omega arith)
 
-pub filled-lists : {w : List ℤ} {f : ℕ → ℤ} {k : ℕ} → Filled w f k → ((j : ℕ) → k ≤ j → j ≤ 7 → pos 0 ≡ f j) → Lists w f
-filled-lists {w} {f} {k} filled rest = record { count = filled .count; entry = λ j h. go j h (decLt j k) }
+pub replaced-lists : {w : List ℤ} {v f : ℕ → ℤ} {k : ℕ} → Replaced w v f k → ((j : ℕ) → k ≤ j → j ≤ 7 → v j ≡ f j) → Lists w f
+replaced-lists {w} {v} {f} {k} replaced rest = record { count = replaced .count; entry = λ j h. go j h (decLt j k) }
   where
     go : (j : ℕ) → j ≤ 7 → Dec (j < k) → coefficient w j ≡ f j
-    go j h (yes b) = filled .done j b
-    go j h (no b) = filled .left j (omega arith) h ∙ rest j (omega arith) h
+    go j h (yes b) = replaced .done j b
+    go j h (no b) = replaced .left j (omega arith) h ∙ rest j (omega arith) h
 
 -- ---- how large the entries are
 

@@ -1,12 +1,11 @@
--- Weights and tables in machine integers: what an array of 8 whole numbers holds, and how large entries are.
+-- Weights in machine integers: what an array of 8 whole numbers holds, and how large its entries are.
 use mathlib.Core.Path.{_≡_}
 use mathlib.Core.List.{List}
 use Prim.Native.Nat.{ℕ, zero, suc, _+_, _≤_}
 use lib.IntN.{ℤ, pos, _*ℤ_}
-use lib.ListN.{length, getD, replicate}
+use lib.ListN.{length, replicate}
 use Rattle.integer.specs.Within.{Within}
 use Rattle.hermite.specs.Polynomial.{coefficient}
-use Rattle.hermite.specs.Water.{waterUnit}
 use Rattle.rounding.specs.Limits.{gradeMax}
 
 -- z^j
@@ -26,10 +25,6 @@ zeros = replicate (gradeMax + 1) (pos 0)
 pub record Lists (w : List ℤ) (f : ℕ → ℤ) : Type 0 where
   pub count : gradeMax + 1 ≡ length w
   pub entry : (j : ℕ) → j ≤ gradeMax → coefficient w j ≡ f j
-
--- each entry of c is at most 720,720
-pub record Entries (c : List ℕ) : Type 0 where
-  pub small : (j : ℕ) → getD c j 0 ≤ waterUnit
 
 -- w holds 8 numbers from −B to B
 pub record Weights (B : ℕ) (w : List ℤ) : Type 0 where

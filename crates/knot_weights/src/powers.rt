@@ -41,16 +41,14 @@ pub fn right_weights(h: u64, c: &[i32], w: &mut [i64; 8])
 }
 
 // w'_j = (j+1) × w_(j+1).
-pub fn primed(w: &[i64]) -> [i64; 8]
-    requires { ⌜ Weights sizeMax (now w) ⌝ }
-    ensures { λ v. ⌜ Lists v (Slope·primed (coefficient (now (w .entry)))) ⌝ }
+pub fn primed(w: &[i64], v: &mut [i64; 8])
+    requires { ⌜ (Weights sizeMax (now w)) × (now v ≡ zeros) ⌝ }
+    ensures { λ _. ⌜ Lists (now (v .exit)) (Slope·primed (coefficient (now (w .entry)))) ⌝ }
 {
-    let mut v = [0i64; 8];
     let mut j = 0;
     while j < 7 {
         let next = j + 1;
         v[j] = next as i64 * w[next];
         j = next;
     }
-    v
 }

@@ -8,25 +8,25 @@ ghost use Rattle.rounding.specs.Trend.{trend as Trend·trend};
 ghost use Rattle.rounding.specs.Value.{value as Value·value};
 use super::slope::scaled_k;
 use super::slope::sum_k;
-use half_sum::binomials;
-use half_sum::half_sum;
-use half_sum::lower_half_sum;
+use half_sum::lower_step_3;
+use half_sum::lower_steps_1_and_2;
+use half_sum::steps_1_and_2;
 use knot_weights::right_weights;
 use knot_weights::weights;
 use rounding::POSITION_UNIT;
 use scaling::Divisor;
 use scaling::Fraction;
 use scaling::scaled;
+use scaling::scaled_times;
 
-// The value: a half-sum from each end.
+// The value: a half-sum from each end. Each is a chain of scalings, and neither waits for the other: with step 3 of
+// both after step 2 of both they stand close together, and a machine works on both at once.
 pub fn value(h: u64, left: &[i32], right: &[i32], r: u64) -> i64
     requires { ⌜ (Admitted (piece h (now left) (now right))) × (r ≤ positionUnit * h) ⌝ }
     ensures { λ v. ⌜ v ≡ Value·value (piece h (now (left .entry)) (now (right .entry))) r ⌝ }
 {
     let m = left.len() - 1;
     let n = right.len() - 1;
-    let rows = binomials();
-    let table: &[u32] = &rows;
     let divisor = Divisor::of(h);
     let s = Fraction::of(r, divisor);
     let complement = Fraction::of(divisor.d - r, divisor);
@@ -34,20 +34,21 @@ pub fn value(h: u64, left: &[i32], right: &[i32], r: u64) -> i64
     weights(h, left, &mut p);
     let mut w = [0i64; 8];
     right_weights(h, right, &mut w);
-    let from_left = half_sum(m, n, s, complement, table, &p);
-    let from_right = half_sum(n, m, complement, s, table, &w);
+    let u = steps_1_and_2(m, n, s, &mut p);
+    let v = steps_1_and_2(n, m, complement, &mut w);
+    let from_left = scaled_times(n + 1, u, complement);
+    let from_right = scaled_times(m + 1, v, s);
     from_left + from_right
 }
 
-// The trend: Y1 − Y2 + Y3, divided by h, which is scaled by 256/D.
+// The trend: Y1 − Y2 + Y3, divided by h, which is scaled by 256/D. Step 3 of Y1 and Y2 comes late, as in a value.
+// K comes when w' has been made of both ends' weights, since it uses their arrays up.
 pub fn trend(h: u64, left: &[i32], right: &[i32], r: u64) -> i64
     requires { ⌜ (Admitted (piece h (now left) (now right))) × (r ≤ positionUnit * h) ⌝ }
     ensures { λ z. ⌜ z ≡ Trend·trend (piece h (now (left .entry)) (now (right .entry))) r ⌝ }
 {
     let m = left.len() - 1;
     let n = right.len() - 1;
-    let rows = binomials();
-    let table: &[u32] = &rows;
     let divisor = Divisor::of(h);
     let s = Fraction::of(r, divisor);
     let complement = Fraction::of(divisor.d - r, divisor);
@@ -55,9 +56,11 @@ pub fn trend(h: u64, left: &[i32], right: &[i32], r: u64) -> i64
     weights(h, left, &mut p);
     let mut w = [0i64; 8];
     right_weights(h, right, &mut w);
-    let y1 = lower_half_sum(m, n, s, complement, table, &p);
-    let y2 = lower_half_sum(n, m, complement, s, table, &w);
-    let k = sum_k(n, m, table, &w) - sum_k(m, n, table, &p);
+    let u = lower_steps_1_and_2(m, n, s, &p);
+    let v = lower_steps_1_and_2(n, m, complement, &w);
+    let k = sum_k(n, m, &mut w) - sum_k(m, n, &mut p);
+    let y1 = lower_step_3(m, n, complement, u);
+    let y2 = lower_step_3(n, m, s, v);
     let y3 = scaled_k(m, n, s, complement, k);
     scaled(y1 - y2 + y3, Fraction::of(POSITION_UNIT, divisor))
 }

@@ -23,9 +23,13 @@ unfolding descended
 descended-agree a d zero i e = ap (λ x. pos valueUnit *ℤ x) (e i (omega arith))
 descended-agree a d (suc k) i e = ap₂ (λ x y. scaled x a d +ℤ pos valueUnit *ℤ y) (descended-agree a d k (suc i) (λ j h. e j (omega arith))) (e i (omega arith))
 
-pub halfSum-agree : (m n a d : ℕ) {w v : ℕ → ℤ} → Agree m w v → halfSum m n a d w ≡ halfSum m n a d v
+-- u after step 2
+pub steps-1-and-2-agree : (m n a d : ℕ) {w v : ℕ → ℤ} → Agree m w v → descended (g n w) a d m 0 ≡ descended (g n v) a d m 0
+steps-1-and-2-agree m n a d e = descended-agree a d m 0 (λ i h. g-agree n i (λ j k. e j (omega arith)))
+
+halfSum-agree : (m n a d : ℕ) {w v : ℕ → ℤ} → Agree m w v → halfSum m n a d w ≡ halfSum m n a d v
 unfolding halfSum
-halfSum-agree m n a d e = ap (λ x. scaledTimes (n + 1) x (d - a) d) (descended-agree a d m 0 (λ i h. g-agree n i (λ j k. e j (omega arith))))
+halfSum-agree m n a d e = ap (λ x. scaledTimes (n + 1) x (d - a) d) (steps-1-and-2-agree m n a d e)
 
 pub lowerHalfSum-agree : (m n a d : ℕ) {w v : ℕ → ℤ} → Agree m w v → lowerHalfSum m n a d w ≡ lowerHalfSum m n a d v
 unfolding lowerHalfSum primed

@@ -107,7 +107,7 @@ sums-within B Γ n i w most small =
 pub g-within : (B n i : ℕ) (w : ℕ → ℤ) → n ≤ 7 → i ≤ 7 → ((j : ℕ) → j ≤ i → Within B (w j)) → Within (6435 * B) (g n w i)
 g-within B n i w hn hi = sums-within B 6435 n i w (most-7 n hn i hi)
 
--- u of step 2, after k rounds of the sums G_i
+-- u of step 2, after k turns over the sums G_i
 descended-within : (Γ : ℕ) (G : ℕ → ℤ) (a d k i : ℕ) → 0 < d → a ≤ d → ((j : ℕ) → j ≤ i + k → Within Γ (G j)) →
     Within ((k + 1) * (valueUnit * Γ)) (descended G a d k i)
 unfolding descended
@@ -118,13 +118,13 @@ descended-within Γ G a d (suc k) i h b small =
     (scaled-within (descended G a d k (suc i)) a d h b (descended-within Γ G a d k (suc i) h b (λ j l. small j (omega arith))))
     (within-mul (pos valueUnit) (G i) (within-natural valueUnit) (small i (omega arith))))
 
--- on w' of weights that keep the size rule, of order up to 7, it fits at every round
-pub descended-fits : (G : ℕ → ℤ) (a d k i : ℕ) → 0 < d → a ≤ d → i + k ≤ 7 → ((j : ℕ) → j ≤ 7 → Within (6435 * (7 * sizeMax)) (G j)) →
+-- on w' of weights that keep the size rule, of order up to 7, it fits at every turn
+pub descended-fits : (G : ℕ → ℤ) (a d k i : ℕ) → 0 < d → a ≤ d → i + k ≤ 7 → ((j : ℕ) → j ≤ i + k → Within (6435 * (7 * sizeMax)) (G j)) →
     Within (2 ^ 63 - 1) (descended G a d k i)
 descended-fits G a d k i h b l small =
-    let rounds : k + 1 ≤ 8 = omega arith in
-    within-more (le-trans (mul-le-mul-right (valueUnit * (6435 * (7 * sizeMax))) rounds) (lit≤ tt))
-    (descended-within (6435 * (7 * sizeMax)) G a d k i h b (λ j e. small j (omega arith)))
+    let turns : k + 1 ≤ 8 = omega arith in
+    within-more (le-trans (mul-le-mul-right (valueUnit * (6435 * (7 * sizeMax))) turns) (lit≤ tt))
+    (descended-within (6435 * (7 * sizeMax)) G a d k i h b small)
 
 halfSum-within : (Γ m n a d : ℕ) (w : ℕ → ℤ) → 0 < d → a ≤ d → ((i : ℕ) → i ≤ m → Within Γ (g n w i)) → Within ((m + 1) * (valueUnit * Γ)) (halfSum m n a d w)
 unfolding halfSum
@@ -133,8 +133,8 @@ halfSum-within Γ m n a d w h b small = times-within (n + 1) _ (d - a) d h (omeg
 -- on weights that keep the size rule a half-sum is below 2^61, and so a value fits
 pub half-within : (m n a d : ℕ) (w : ℕ → ℤ) → m ≤ 7 → n ≤ 7 → 0 < d → a ≤ d → ((j : ℕ) → j ≤ m → Within sizeMax (w j)) → Within (2 ^ 61) (halfSum m n a d w)
 half-within m n a d w hm hn h b small =
-    let rounds : m + 1 ≤ 8 = omega arith in
-    within-more (le-trans (mul-le-mul-right (valueUnit * (6435 * sizeMax)) rounds) (lit≤ tt))
+    let turns : m + 1 ≤ 8 = omega arith in
+    within-more (le-trans (mul-le-mul-right (valueUnit * (6435 * sizeMax)) turns) (lit≤ tt))
     (halfSum-within (6435 * sizeMax) m n a d w h b (λ i l. g-within sizeMax n i w hn (omega arith) (λ j k. small j (omega arith))))
 
 -- ---- the trend

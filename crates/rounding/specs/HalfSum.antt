@@ -6,7 +6,7 @@ use Rattle.hermite.specs.HalfSum.{valueUnit, g}
 use Rattle.hermite.specs.Slope.{primed}
 use Rattle.rounding.specs.Scaling.{scaled, scaledTimes}
 
--- step 2: u at i, after k rounds from i + k, which is m. After no round it is 65,536 × g_m; each round scales the u
+-- step 2: u at i, after k turns from i + k, which is m. After no turn it is 65,536 × g_m; each turn scales the u
 -- before it by a/D and adds 65,536 × g_i
 unfoldable pub descended : (ℕ → ℤ) → ℕ → ℕ → ℕ → ℕ → ℤ
 descended G a D zero i = pos valueUnit *ℤ G i

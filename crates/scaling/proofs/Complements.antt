@@ -25,8 +25,9 @@ complements proper first second = record {
   together = omega (arith, first .0, first .1, second .0);
 }
 
+pub numerator-is : {s t : Fraction} → Complements s t → t .a ≡ s .d - s .a
+numerator-is pair = omega (arith, pair .together)
+
 -- scaled by the complement is scaled by (d−a)/d
 pub by-complement : {s t : Fraction} → Complements s t → (k : ℕ) (z : ℤ) → scaledTimes k z (t .a) (t .d) ≡ scaledTimes k z (s .d - s .a) (s .d)
-by-complement {s} {t} pair k z =
-    let a : t .a ≡ s .d - s .a = omega (arith, pair .together) in
-    rw (a, pair .divisor) refl
+by-complement {s} {t} pair k z = rw (numerator-is pair, pair .divisor) refl

@@ -1,2 +1,3 @@
--- What the proof of `total` uses.
+-- What the proofs of `weighted` and `total` use.
+mod Terms
 mod ByTable

@@ -17,7 +17,7 @@ use Rattle.rounding.proofs.Distance.Near.{Near, Rounding, near-exact, n
 from : (ℕ → ℤ) → ℕ → ℕ → ℤ
 from G i l = G (i + l)
 
--- step 2 without rounding, by the rounds of step 2: the last term alone, and one more before it
+-- step 2 without rounding, by the turns of step 2: the last term alone, and one more before it
 descent-last : (G : ℕ → ℤ) (a D i : ℕ) → unroundedDescent (from G i) a D 0 ≡ pos valueUnit *ℤ G i
 unfolding from unroundedDescent sum one
 descent-last G a D i = rw (add-zero, pow-zero a, pow-zero D) (*ℤ-one (pos valueUnit *ℤ G i))

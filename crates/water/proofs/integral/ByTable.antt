@@ -5,17 +5,19 @@ use Prim.Native.Nat.{ℕ, _+_, _*_, _-_, _/_, _%_, _≤_, _<_}
 use native.Mathlib.Decide.{decLt}
 use native.Mathlib.Omega.{arith}
 use lib.IntN.{ℤ, pos, _*ℤ_, *ℤ-comm}
-use lib.ListN.{getD, take, drop, List·getD-eq-default}
+use lib.ListN.{getD, take, drop, length-take, List·getD-eq-default}
+use lib.Seq.{getD-take, getD-drop}
 use Rattle.integer.specs.Sum.{sum}
 use Rattle.integer.proofs.Sum.{sum-cong}
 use Rattle.hermite.specs.Polynomial.{coefficient}
 use Rattle.hermite.specs.Water.{waterUnit, c}
 use Rattle.rounding.proofs.Agree.{Agree}
 use Rattle.rounding.proofs.Bounds.{entry-most}
-use Rattle.knot_weights.specs.Machine.{Entries}
-use Rattle.half_sum.proofs.Terms.{term}
-use Rattle.half_sum.proofs.Tables.{part-entry, part-entries}
-use Rattle.water.specs.Machine.{IntegralWeights}
+use Rattle.water.proofs.integral.Terms.{term}
+use Rattle.water.specs.Machine.{Entries, IntegralWeights}
+
+part-entry : (t : List ℕ) (k from j : ℕ) → j < k → getD (take k (drop from t)) j 0 ≡ getD t (from + j) 0
+part-entry t k from j h = rw (getD-take, getD-drop)
 
 module _ (t : List ℕ) (table : IntegralWeights t) where
   -- how large its entries are
@@ -34,7 +36,11 @@ module _ (t : List ℕ) (table : IntegralWeights t) where
       go (no h) = rw (List·getD-eq-default t 0 {n = k} (omega (arith, table .count))) (omega arith)
 
   pub part-small : (k from : ℕ) → Entries (take k (drop from t))
-  part-small k from = part-entries t k from (record { small = small })
+  part-small k from = record { small = λ j. go j (decLt j k) }
+    where
+      go : (j : ℕ) → Dec (j < k) → getD (take k (drop from t)) j 0 ≤ waterUnit
+      go j (yes h) = rw (part-entry t k from j h) (small (from + j))
+      go j (no h) = rw (List·getD-eq-default (take k (drop from t)) 0 {n = j} (simp length-take (omega arith))) (omega arith)
 
   -- the sum of one end
   sum-by-table : (m n : ℕ) → m ≤ 7 → n ≤ 7 → (w : List ℤ) {v : ℕ → ℤ} → Agree m (coefficient w) v →

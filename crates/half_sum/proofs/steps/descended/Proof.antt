@@ -1,4 +1,4 @@
--- `half_sum::steps::descended` meets its contract. At i, u is that of step 2 after m − i rounds.
+-- `half_sum::steps::descended` meets its contract. At i, u is that of step 2 after m − i turns.
 use mathlib.Core.Path.{_≡_, _∙_, ap}
 use Prim.Native.Nat.{ℕ, suc, _+_, _-_, _^_, _≤_}
 use native.Mathlib.Omega.{arith}
@@ -32,7 +32,7 @@ module _ (b : tie.Start Inv-loop μ-loop) where
 
   u-within : (k i : ℕ) → i + k ≤ 7 → Within (2 ^ 63 - 1) (descended (coefficient (b .args .g .now)) (b .args .s .a) (b .args .s .d) k i)
   u-within k i h = descended-fits (coefficient (b .args .g .now)) (b .args .s .a) (b .args .s .d) k i (b .pre .1 .divides .atLeast)
-      (b .pre .1 .proper) h (b .pre .2 .small)
+      (b .pre .1 .proper) h (λ j l. b .pre .2 .small j (omega arith))
 
   u-fits : (k i : ℕ) → i + k ≤ 7 → SFits w64 (descended (coefficient (b .args .g .now)) (b .args .s .a) (b .args .s .d) k i)
   u-fits k i h = within-fits w64 _ (lit< tt) (u-within k i h)
@@ -44,12 +44,12 @@ loop-holds c =
     let none : b .args .m - b .args .m ≡ 0 = omega arith in
     (omega arith, rw none (computed-is (unit-is b (b .args .m) (b .pre .0)) (unit-fits b (b .args .m) (b .pre .0))))
 
--- one round more
-round : (c : tie.After-u2 Inv-loop μ-loop) → let l = c .before .before .before in let b = l .before .before in
+-- one turn more
+turn : (c : tie.After-u2 Inv-loop μ-loop) → let l = c .before .before .before in let b = l .before .before in
     toZ w64 (ofZ w64 (c .before .scaled .result)) +ℤ toZ w64 (ofZ w64 (pos valueUnit *ℤ toZ w64 (ofZ w64 (coefficient (b .args .g .now) (l .loop .i - 1))))) ≡
     descended (coefficient (b .args .g .now)) (b .args .s .a) (b .args .s .d) (b .args .m - (l .loop .i - 1)) (l .loop .i - 1)
 unfolding descended
-round c =
+turn c =
     let l = c .before .before .before in
     let b = l .before .before in
     let next : b .args .m - (l .loop .i - 1) ≡ suc (b .args .m - l .loop .i) = omega arith in
@@ -68,7 +68,7 @@ loop-again : tie.Need-loop-again Inv-loop μ-loop
 loop-again c =
     let l = c .before .before .before in
     let b = l .before .before in
-    (omega arith, rw (round c) (toZ-ofZ (u-fits b (b .args .m - (l .loop .i - 1)) (l .loop .i - 1) (omega arith))))
+    (omega arith, rw (turn c) (toZ-ofZ (u-fits b (b .args .m - (l .loop .i - 1)) (l .loop .i - 1) (omega arith))))
 
 returns : tie.Need-returns Inv-loop μ-loop
 returns c =
@@ -112,7 +112,7 @@ add-u : tie.Need-add-u Inv-loop μ-loop
 add-u c =
     let l = c .before .before .before in
     let b = l .before .before in
-    rw (round c) (u-fits b (b .args .m - (l .loop .i - 1)) (l .loop .i - 1) (omega arith))
+    rw (turn c) (u-fits b (b .args .m - (l .loop .i - 1)) (l .loop .i - 1) (omega arith))
 
 loop-less : tie.Need-loop-less Inv-loop μ-loop
 loop-less c = omega arith

@@ -13,21 +13,21 @@ use Rattle.integer.specs.Within.{Within}
 use Rattle.integer.proofs.Within.{fits-within, within-mul, within-fits, computed-is}
 use Rattle.hermite.specs.Polynomial.{coefficient}
 use Rattle.knot_weights.specs.Machine.{power as Machine·power, byPowers}
-use Rattle.knot_weights.proofs.Lists.{Filled, filled-zeros, filled-more, filled-lists}
+use Rattle.knot_weights.proofs.Lists.{Replaced, replaced-zeros, replaced-more, replaced-lists}
 use Rattle.knot_weights.proofs.SignedPowers.{power-most}
 use Rattle.knot_weights.proofs.powers.by_powers.Statement.{statement}
 use Rattle.knot_weights.proofs.powers.by_powers.Tie as tie
 
 abbrev Inv-loop : tie.InvT-loop
 Inv-loop base c w₀ power₀ j₀ w power j =
-    (j ≤ length c) × (toZ w64 power ≡ Machine·power (toZ w64 base) j) × (Filled w (byPowers (toZ w64 base) c) j)
+    (j ≤ length c) × (toZ w64 power ≡ Machine·power (toZ w64 base) j) × (Replaced w (λ j. pos 0) (byPowers (toZ w64 base) c) j)
 
 abbrev μ-loop : tie.MeasureT-loop
 μ-loop base c w₀ power₀ j₀ w power j = length c - j
 
 loop-holds : tie.Need-loop-holds Inv-loop μ-loop
 unfolding Machine·power
-loop-holds c = (omega arith, refl, rw (c .pre .2) (filled-zeros _))
+loop-holds c = (omega arith, refl, rw (c .pre .2) (replaced-zeros _))
 
 module _ (c : tie.After-w Inv-loop μ-loop) where
   base-is : let b = c .before .before .before in toZ w64 (ofZ w64 (b .args .base)) ≡ b .args .base
@@ -67,13 +67,13 @@ module _ (c : tie.After-w Inv-loop μ-loop) where
 loop-again : tie.Need-loop-again Inv-loop μ-loop
 loop-again c =
     let l = c .before .before in
-    (omega arith, computed-is (next-is c) (next-fits c), filled-more _ (l .loop .inv .2) (omega arith) (computed-is (product-is c) (product-fits c)))
+    (omega arith, computed-is (next-is c) (next-fits c), replaced-more _ (l .loop .inv .2) (omega arith) (computed-is (product-is c) (product-fits c)))
 
 returns : tie.Need-returns Inv-loop μ-loop
 returns c =
     let b = c .before .before in
     rw (← toZ-ofZ (b .fits .base))
-    (filled-lists (c .before .loop .inv .2) (λ j h l. sym (ap (λ x. x *ℤ Machine·power (toZ w64 (ofZ w64 (b .args .base))) j)
+    (replaced-lists (c .before .loop .inv .2) (λ j h l. sym (ap (λ x. x *ℤ Machine·power (toZ w64 (ofZ w64 (b .args .base))) j)
     (List·getD-eq-default (b .args .c .now) (pos 0) (omega arith)) ∙ zero-*ℤ (Machine·power (toZ w64 (ofZ w64 (b .args .base))) j))))
 
 -- ---- the needs

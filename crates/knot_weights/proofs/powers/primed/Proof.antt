@@ -14,22 +14,22 @@ use Rattle.integer.proofs.Within.{within-fits, computed-is}
 use Rattle.hermite.specs.Polynomial.{coefficient}
 use Rattle.rounding.specs.Limits.{sizeMax}
 use Rattle.rounding.proofs.Bounds.{primed-within}
-use Rattle.knot_weights.proofs.Lists.{Filled, filled-zeros, filled-more, filled-lists}
+use Rattle.knot_weights.proofs.Lists.{Replaced, replaced-zeros, replaced-more, replaced-lists}
 use Rattle.knot_weights.proofs.powers.primed.Statement.{statement}
 use Rattle.knot_weights.proofs.powers.primed.Tie as tie
 
 abbrev Inv-loop : tie.InvT-loop
-Inv-loop w v₀ j₀ v j = (j ≤ 7) × (Filled v (Slope·primed (coefficient w)) j)
+Inv-loop w v₀ j₀ v j = (j ≤ 7) × (Replaced v (λ j. pos 0) (Slope·primed (coefficient w)) j)
 
 abbrev μ-loop : tie.MeasureT-loop
 μ-loop w v₀ j₀ v j = 7 - j
 
 loop-holds : tie.Need-loop-holds Inv-loop μ-loop
-loop-holds c = (omega arith, filled-zeros _)
+loop-holds c = (omega arith, rw (c .pre .1) (replaced-zeros _))
 
 module _ (c : tie.After-v Inv-loop μ-loop) where
   held-small : let l = c .before .before in Within sizeMax (coefficient (l .before .args .w .now) (l .loop .j + 1))
-  held-small = let l = c .before .before in l .before .pre .small (l .loop .j + 1) (omega arith)
+  held-small = let l = c .before .before in l .before .pre .0 .small (l .loop .j + 1) (omega arith)
 
   held-fits : let l = c .before .before in SFits w64 (coefficient (l .before .args .w .now) (l .loop .j + 1))
   held-fits = let l = c .before .before in within-fits w64 (coefficient (l .before .args .w .now) (l .loop .j + 1)) (lit< tt) held-small
@@ -47,12 +47,12 @@ module _ (c : tie.After-v Inv-loop μ-loop) where
 loop-again : tie.Need-loop-again Inv-loop μ-loop
 loop-again c =
     let l = c .before .before in
-    (omega arith, filled-more _ (l .loop .inv .1) (omega arith) (computed-is (product-is c) (weight-fits c)))
+    (omega arith, replaced-more _ (l .loop .inv .1) (omega arith) (computed-is (product-is c) (weight-fits c)))
 
 returns : tie.Need-returns Inv-loop μ-loop
 unfolding Slope·primed
-returns c = filled-lists (c .before .loop .inv .1) (λ j h b. sym
-    (ap (λ x. pos (j + 1) *ℤ x) (List·getD-eq-default (c .before .before .args .w .now) (pos 0) (omega (arith, c .before .before .pre .count))) ∙
+returns c = replaced-lists (c .before .loop .inv .1) (λ j h b. sym
+    (ap (λ x. pos (j + 1) *ℤ x) (List·getD-eq-default (c .before .before .args .w .now) (pos 0) (omega (arith, c .before .before .pre .0 .count))) ∙
     *ℤ-zero (pos (j + 1))))
 
 -- ---- the needs
@@ -67,16 +67,16 @@ mul-v : tie.Need-mul-v Inv-loop μ-loop
 mul-v c = omega arith
 
 shared-slice-copy-out-v : tie.Need-shared-slice-copy-out-v Inv-loop μ-loop
-shared-slice-copy-out-v c = omega (arith, c .before .before .pre .count)
+shared-slice-copy-out-v c = omega (arith, c .before .before .pre .0 .count)
 
 mul-v-2 : tie.Need-mul-v-2 Inv-loop μ-loop
 mul-v-2 c = rw (product-is c) (weight-fits c)
 
-mul-v-3 : tie.Need-mul-v-3 Inv-loop μ-loop
-mul-v-3 c = omega arith
+mul-t11 : tie.Need-mul-t11 Inv-loop μ-loop
+mul-t11 c = omega arith
 
-array-set-from-v : tie.Need-array-set-from-v Inv-loop μ-loop
-array-set-from-v c = omega arith
+element-set-from-v : tie.Need-element-set-from-v Inv-loop μ-loop
+element-set-from-v c = omega arith
 
 loop-less : tie.Need-loop-less Inv-loop μ-loop
 loop-less c = omega arith
@@ -93,8 +93,8 @@ primed-spec =
     mul-v
     shared-slice-copy-out-v
     mul-v-2
-    mul-v-3
-    array-set-from-v
+    mul-t11
+    element-set-from-v
     loop-less
     loop-again
     returns)

@@ -10,6 +10,7 @@ use lib.IntN.{ℤ, _+ℤ_, _-ℤ_}
 use mir.Syntax.{w64}
 use mir.Val.{SFits, toZ, ofZ}
 use Rattle.integer.specs.Within.{Within}
+use Rattle.hermite.specs.Blend.{rightWeights}
 use Rattle.hermite.specs.Polynomial.{coefficient}
 use Rattle.hermite.specs.Slope.{K}
 use Rattle.rounding.specs.HalfSum.{lowerHalfSum}
@@ -18,10 +19,11 @@ use Rattle.rounding.specs.Piece.{Piece, piece, m, n, p, q, D}
 use Rattle.rounding.specs.Scaling.{scaled}
 use Rattle.rounding.specs.Size.{Admitted}
 use Rattle.rounding.specs.Trend.{Y1, Y2, Y3, scaledK, trend}
-use Rattle.rounding.proofs.Agree.{lowerHalfSum-agree, sumK-agree}
+use Rattle.rounding.proofs.Agree.{sumK-agree}
 use Rattle.rounding.proofs.Fits.{left-grade, right-grade, left-weight, right-weight, K-within, difference-within, slope-within}
 use Rattle.rounding.proofs.Scaling.{divided}
-use Rattle.half_sum.specs.Machine.{Binomials}
+use Rattle.half_sum.specs.Machine.{lowerSteps1And2}
+use Rattle.half_sum.proofs.Parts.{lower-half-sum-is, lower-steps-1-and-2-fit}
 use Rattle.knot_weights.specs.Machine.{Weights}
 use Rattle.knot_weights.proofs.Lists.{listed-weights}
 use Rattle.integer.proofs.Within.{within-fits, computed-is, result-is}
@@ -33,7 +35,7 @@ use Rattle.piece.proofs.curve.trend.Tie as tie
 
 -- where the function starts, the piece, and the place r in it
 abbrev start : tie.After-right-weights → tie.Start
-start e = e .before .before .before .before .before .before .before .before .before .before
+start e = e .before .before .before .before .before .before .before .before
 
 abbrev P : tie.After-right-weights → Piece
 P e = piece (start e .args .h) (start e .args .left .now) (start e .args .right .now)
@@ -51,11 +53,8 @@ left e = e .before .before .weights .last .1 .1 .0
 abbrev right : tie.After-right-weights → List ℤ
 right e = e .right-weights .last .1 .1 .0
 
--- the table, the fractions r/D and (D−r)/D, and the weights
+-- the fractions r/D and (D−r)/D, and the weights
 module _ (e : tie.After-right-weights) where
-  table : Binomials (e .before .before .before .before .before .before .before .before .before .binomials .result)
-  table = e .before .before .before .before .before .before .before .before .before .binomials .ensures
-
   abbrev s : Fraction
   s = e .before .before .before .before .before .before .of2 .result
 
@@ -94,51 +93,78 @@ module _ (c : tie.After-sum-k2) where
   unfolding K
   k-is =
       ap₂ (λ x y. x -ℤ y)
-      (result-is (c .before .before .sum-k .result) (c .before .before .sum-k .ok) ∙ c .before .before .sum-k .ensures ∙
+      (result-is (c .before .before .sum-k .result) (c .before .before .sum-k .ok) ∙ c .before .before .sum-k .ensures .0 ∙
       sumK-agree (n (P weighed)) (m (P weighed)) (λ j h. weighed .right-weights .ensures .entry j (le-trans h (right-grade (P weighed) (admitted weighed)))))
-      (result-is (c .sum-k2 .result) (c .sum-k2 .ok) ∙ c .sum-k2 .ensures ∙
+      (result-is (c .sum-k2 .result) (c .sum-k2 .ok) ∙ c .sum-k2 .ensures .0 ∙
       sumK-agree (m (P weighed)) (n (P weighed))
       (λ j h. weighed .before .before .weights .ensures .entry j (le-trans h (left-grade (P weighed) (admitted weighed)))))
 
   k-fits : SFits w64 (K (m (P weighed)) (n (P weighed)) (p (P weighed)) (q (P weighed)))
   k-fits = within-fits w64 _ (lit< tt) (K-within (P weighed) (admitted weighed))
 
+-- u of both half-sums
+module _ (c : tie.After-sum-k2) where
+  abbrev first : tie.After-lower-steps-1-and-2
+  first = c .before .before .before .before .before .before
+
+  abbrev second : tie.After-lower-steps-1-and-22
+  second = c .before .before .before .before
+
+  u-is : toZ w64 (ofZ w64 (first .lower-steps-1-and-2 .result)) ≡ lowerSteps1And2 (m (P (weighed c))) (n (P (weighed c))) (s (weighed c) .a) (s (weighed c) .d)
+      (coefficient (left (weighed c)))
+  u-is = result-is (first .lower-steps-1-and-2 .result) (first .lower-steps-1-and-2 .ok) ∙ first .lower-steps-1-and-2 .ensures
+
+  u-fits : Within (2 ^ 63 - 1) (toZ w64 (ofZ w64 (first .lower-steps-1-and-2 .result)))
+  u-fits =
+      let e = weighed c in
+      rw u-is (lower-steps-1-and-2-fit (n (P e)) (s e .a) (s e .d) (right-grade (P e) (admitted e)) (pair e .prepared .divides .atLeast)
+      (pair e .prepared .proper) (m (P e)) (left-grade (P e) (admitted e)) (coefficient (left e))
+      (λ j h. left-small e .small j (le-trans h (left-grade (P e) (admitted e)))))
+
+  v-is : toZ w64 (ofZ w64 (second .lower-steps-1-and-22 .result)) ≡ lowerSteps1And2 (n (P (weighed c))) (m (P (weighed c))) (complement (weighed c) .a)
+      (complement (weighed c) .d) (coefficient (right (weighed c)))
+  v-is = result-is (second .lower-steps-1-and-22 .result) (second .lower-steps-1-and-22 .ok) ∙ second .lower-steps-1-and-22 .ensures
+
+  v-fits : Within (2 ^ 63 - 1) (toZ w64 (ofZ w64 (second .lower-steps-1-and-22 .result)))
+  v-fits =
+      let e = weighed c in
+      rw v-is (lower-steps-1-and-2-fit (m (P e)) (complement e .a) (complement e .d) (left-grade (P e) (admitted e)) (pair e .other .divides .atLeast)
+      (pair e .other .proper) (n (P e)) (right-grade (P e) (admitted e)) (coefficient (right e))
+      (λ j h. right-small e .small j (le-trans h (right-grade (P e) (admitted e)))))
+
 -- Y1, Y2, Y3, and Y1 − Y2 + Y3
 module _ (c : tie.After-scaled-k) where
   abbrev made : tie.After-right-weights
-  made = weighed (c .before)
+  made = weighed (c .before .before .before)
 
-  abbrev first : tie.After-lower-half-sum
-  first = c .before .before .before .before .before .before .before
-
-  abbrev second : tie.After-lower-half-sum2
-  second = c .before .before .before .before .before
-
-  y1-is : toZ w64 (ofZ w64 (first .lower-half-sum .result)) ≡ Y1 (P made) (at made)
+  y1-is : toZ w64 (ofZ w64 (c .before .before .lower-step-3 .result)) ≡ Y1 (P made) (at made)
   unfolding Y1
   y1-is =
-      result-is (first .lower-half-sum .result) (first .lower-half-sum .ok) ∙ first .lower-half-sum .ensures ∙
-      ap₂ (λ a d. lowerHalfSum (m (P made)) (n (P made)) a d (coefficient (left made))) (r-is made) (D-is made) ∙
-      lowerHalfSum-agree (m (P made)) (n (P made)) (at made) (D (P made))
+      result-is (c .before .before .lower-step-3 .result) (c .before .before .lower-step-3 .ok) ∙
+      lower-half-sum-is (pair made) (m (P made)) (n (P made))
       (λ j h. made .before .before .weights .ensures .entry j (le-trans h (left-grade (P made) (admitted made))))
+      (u-is (c .before .before .before)) (c .before .before .lower-step-3 .ensures) ∙
+      ap₂ (λ a d. lowerHalfSum (m (P made)) (n (P made)) a d (p (P made))) (r-is made) (D-is made)
 
-  y2-is : toZ w64 (ofZ w64 (second .lower-half-sum2 .result)) ≡ Y2 (P made) (at made)
+  y2-is : toZ w64 (ofZ w64 (c .before .lower-step-32 .result)) ≡ Y2 (P made) (at made)
   unfolding Y2
   y2-is =
-      result-is (second .lower-half-sum2 .result) (second .lower-half-sum2 .ok) ∙ second .lower-half-sum2 .ensures ∙
-      ap₂ (λ a d. lowerHalfSum (n (P made)) (m (P made)) a d (coefficient (right made))) (complement-is made) (pair made .divisor ∙ D-is made) ∙
-      lowerHalfSum-agree (n (P made)) (m (P made)) (D (P made) - at made) (D (P made))
+      result-is (c .before .lower-step-32 .result) (c .before .lower-step-32 .ok) ∙
+      lower-half-sum-is (exchanged (pair made)) (n (P made)) (m (P made))
       (λ j h. made .right-weights .ensures .entry j (le-trans h (right-grade (P made) (admitted made))))
+      (v-is (c .before .before .before)) (c .before .lower-step-32 .ensures) ∙
+      ap₂ (λ a d. lowerHalfSum (n (P made)) (m (P made)) a d (rightWeights (q (P made)))) (complement-is made) (pair made .divisor ∙ D-is made)
 
   y3-is : toZ w64 (ofZ w64 (c .scaled-k .result)) ≡ Y3 (P made) (at made)
   unfolding Y3
   y3-is =
       result-is (c .scaled-k .result) (c .scaled-k .ok) ∙ c .scaled-k .ensures ∙
-      ap (λ k. scaledK (m (P made)) (n (P made)) (s made .a) (s made .d) k) (computed-is (k-is (c .before)) (k-fits (c .before))) ∙
+      ap (λ k. scaledK (m (P made)) (n (P made)) (s made .a) (s made .d) k)
+      (computed-is (k-is (c .before .before .before)) (k-fits (c .before .before .before))) ∙
       ap₂ (λ a d. scaledK (m (P made)) (n (P made)) a d (K (m (P made)) (n (P made)) (p (P made)) (q (P made)))) (r-is made) (D-is made)
 
-  difference-is : toZ w64 (ofZ w64 (first .lower-half-sum .result)) -ℤ
-      toZ w64 (ofZ w64 (second .lower-half-sum2 .result)) ≡ Y1 (P made) (at made) -ℤ Y2 (P made) (at made)
+  difference-is : toZ w64 (ofZ w64 (c .before .before .lower-step-3 .result)) -ℤ
+      toZ w64 (ofZ w64 (c .before .lower-step-32 .result)) ≡ Y1 (P made) (at made) -ℤ Y2 (P made) (at made)
   difference-is = ap₂ (λ x y. x -ℤ y) y1-is y2-is
 
   difference-fits : SFits w64 (Y1 (P made) (at made) -ℤ Y2 (P made) (at made))
@@ -147,8 +173,8 @@ module _ (c : tie.After-scaled-k) where
   abbrev slope : ℤ
   slope = Y1 (P made) (at made) -ℤ Y2 (P made) (at made) +ℤ Y3 (P made) (at made)
 
-  slope-is : toZ w64 (ofZ w64 (toZ w64 (ofZ w64 (first .lower-half-sum .result)) -ℤ
-      toZ w64 (ofZ w64 (second .lower-half-sum2 .result)))) +ℤ toZ w64 (ofZ w64 (c .scaled-k .result)) ≡ slope
+  slope-is : toZ w64 (ofZ w64 (toZ w64 (ofZ w64 (c .before .before .lower-step-3 .result)) -ℤ
+      toZ w64 (ofZ w64 (c .before .lower-step-32 .result)))) +ℤ toZ w64 (ofZ w64 (c .scaled-k .result)) ≡ slope
   slope-is = ap₂ (λ x y. x +ℤ y) (computed-is difference-is difference-fits) y3-is
 
   slope-small : Within (2 ^ 63 - 1) slope
@@ -175,12 +201,6 @@ sub-m c = search needs
 sub-n : tie.Need-sub-n
 sub-n c = search needs
 
-binomials-requires : tie.Need-binomials-requires
-binomials-requires c κs = search needs
-
-slice-aggregate-table : tie.Need-slice-aggregate-table
-slice-aggregate-table c = search needs
-
 of-requires : tie.Need-of-requires
 of-requires c κs = search needs
 
@@ -199,41 +219,43 @@ weights-requires c κs = search needs
 right-weights-requires : tie.Need-right-weights-requires
 right-weights-requires c κs = search needs
 
-slice-aggregate-lower-half-sum : tie.Need-slice-aggregate-lower-half-sum
-slice-aggregate-lower-half-sum c = search needs
+slice-aggregate-lower-steps-1-and-2 : tie.Need-slice-aggregate-lower-steps-1-and-2
+slice-aggregate-lower-steps-1-and-2 c = search needs
 
-lower-half-sum-requires : tie.Need-lower-half-sum-requires
-lower-half-sum-requires c κs = let e = c .before in (left-grade (P e) (admitted e), right-grade (P e) (admitted e), pair e, table e, left-small e)
+lower-steps-1-and-2-requires : tie.Need-lower-steps-1-and-2-requires
+lower-steps-1-and-2-requires c κs = let e = c .before in (left-grade (P e) (admitted e), right-grade (P e) (admitted e), pair e .prepared, left-small e)
 
-slice-aggregate-lower-half-sum-2 : tie.Need-slice-aggregate-lower-half-sum-2
-slice-aggregate-lower-half-sum-2 c = search needs
+slice-aggregate-lower-steps-1-and-2-2 : tie.Need-slice-aggregate-lower-steps-1-and-2-2
+slice-aggregate-lower-steps-1-and-2-2 c = search needs
 
-lower-half-sum-requires-2 : tie.Need-lower-half-sum-requires-2
-lower-half-sum-requires-2 c κs =
+lower-steps-1-and-2-requires-2 : tie.Need-lower-steps-1-and-2-requires-2
+lower-steps-1-and-2-requires-2 c κs =
     let e = c .before .before .before in
-    (right-grade (P e) (admitted e), left-grade (P e) (admitted e), exchanged (pair e), table e, right-small e)
-
-slice-aggregate-sum-k : tie.Need-slice-aggregate-sum-k
-slice-aggregate-sum-k c = search needs
+    (right-grade (P e) (admitted e), left-grade (P e) (admitted e), pair e .other, right-small e)
 
 sum-k-requires : tie.Need-sum-k-requires
 sum-k-requires c κs =
     let e = c .before .before .before .before .before in
-    (right-grade (P e) (admitted e), left-grade (P e) (admitted e), table e, right-small e)
-
-slice-aggregate-sum-k-2 : tie.Need-slice-aggregate-sum-k-2
-slice-aggregate-sum-k-2 c = search needs
+    (right-grade (P e) (admitted e), left-grade (P e) (admitted e), right-small e)
 
 sum-k-requires-2 : tie.Need-sum-k-requires-2
 sum-k-requires-2 c κs =
     let e = c .before .before .before .before .before .before .before in
-    (left-grade (P e) (admitted e), right-grade (P e) (admitted e), table e, left-small e)
+    (left-grade (P e) (admitted e), right-grade (P e) (admitted e), left-small e)
 
 sub-k : tie.Need-sub-k
 sub-k c = rw (k-is c) (k-fits c)
 
+lower-step-3-requires : tie.Need-lower-step-3-requires
+lower-step-3-requires c κs = let e = weighed c in (right-grade (P e) (admitted e), pair e .other, u-fits c)
+
+lower-step-3-requires-2 : tie.Need-lower-step-3-requires-2
+lower-step-3-requires-2 c κs = let e = weighed (c .before) in (left-grade (P e) (admitted e), pair e .prepared, v-fits (c .before))
+
 scaled-k-requires : tie.Need-scaled-k-requires
-scaled-k-requires c κs = (pair (weighed c), rw (computed-is (k-is c) (k-fits c)) (K-within (P (weighed c)) (start (weighed c) .pre .0)))
+scaled-k-requires c κs =
+    let k = c .before .before in
+    (pair (weighed k), rw (computed-is (k-is k) (k-fits k)) (K-within (P (weighed k)) (start (weighed k) .pre .0)))
 
 sub-scaled : tie.Need-sub-scaled
 sub-scaled c = rw (difference-is c) (difference-fits c)
@@ -255,23 +277,21 @@ trend-spec =
     (tie.spec
     sub-m
     sub-n
-    binomials-requires
-    slice-aggregate-table
     of-requires
     of-requires-2
     sub-of
     of-requires-3
     weights-requires
     right-weights-requires
-    slice-aggregate-lower-half-sum
-    lower-half-sum-requires
-    slice-aggregate-lower-half-sum-2
-    lower-half-sum-requires-2
-    slice-aggregate-sum-k
+    slice-aggregate-lower-steps-1-and-2
+    lower-steps-1-and-2-requires
+    slice-aggregate-lower-steps-1-and-2-2
+    lower-steps-1-and-2-requires-2
     sum-k-requires
-    slice-aggregate-sum-k-2
     sum-k-requires-2
     sub-k
+    lower-step-3-requires
+    lower-step-3-requires-2
     scaled-k-requires
     sub-scaled
     add-scaled

@@ -3,7 +3,7 @@ use borrow.Author.Needs.{needs}
 use mathlib.Core.Path.{_≡_, _∙_, ap₂}
 use Prim.Native.Nat.{_+_, _-_, _*_}
 use native.Mathlib.Omega.{arith}
-use lib.Dec.{lit<, lit≤}
+use lib.Dec.{lit<}
 use lib.IntN.{pos, _+ℤ_, _*ℤ_}
 use lib.ListN.{length, length-take, length-drop}
 use mir.Syntax.{w64}
@@ -15,7 +15,7 @@ use Rattle.hermite.specs.Water.{weightedSum, c as Water·c}
 use Rattle.rounding.specs.Piece.{Piece, piece, m, n, p, q}
 use Rattle.rounding.specs.Water.{total}
 use Rattle.rounding.proofs.Fits.{left-weight, right-weight, weightedSum-within, total-within}
-use Rattle.knot_weights.proofs.Lists.{more-weights, listed-weights}
+use Rattle.knot_weights.proofs.Lists.{listed-weights}
 use Rattle.integer.proofs.Within.{within-fits, computed-is, result-is}
 use Rattle.water.proofs.integral.ByTable.{part-small, sums-by-table}
 use Rattle.water.proofs.integral.total.Statement.{statement}
@@ -124,7 +124,7 @@ weighted-requires c κs =
       omega arith,
       simp (length-take, length-drop) (omega (arith, a .integral-weights .ensures .count)),
       part-small (a .integral-weights .result) (a .integral-weights .ensures) (512 - row) row,
-      more-weights (lit≤ tt) (listed-weights (d .weights .ensures) (left-weight _ (b .pre))),
+      listed-weights (d .weights .ensures) (left-weight _ (b .pre)),
     )
 
 mul-weighted-2 : tie.Need-mul-weighted-2
@@ -151,7 +151,7 @@ weighted-requires-2 c κs =
       omega arith,
       simp (length-take, length-drop) (omega (arith, a .integral-weights .ensures .count)),
       part-small (a .integral-weights .result) (a .integral-weights .ensures) (512 - row) row,
-      more-weights (lit≤ tt) (listed-weights (d .right-weights .ensures) (right-weight _ (b .pre))),
+      listed-weights (d .right-weights .ensures) (right-weight _ (b .pre)),
     )
 
 add-result : tie.Need-add-result

@@ -1,4 +1,4 @@
--- `half_sum::sums::weighted` meets its contract. After j turns sum is the sum to j.
+-- `water::integral::weighted` meets its contract. After j turns sum is the sum to j.
 use mathlib.Core.Path.{_≡_}
 use Prim.Native.Nat.{_+_, _-_, _≤_}
 use native.Mathlib.Omega.{arith}
@@ -7,15 +7,40 @@ use mir.Val.{toZ}
 use mir.Facts.{toZ-ofZ}
 use Rattle.integer.specs.Sum.{sum as Sum·sum}
 use Rattle.integer.proofs.Within.{computed-is}
-use Rattle.half_sum.proofs.Terms.{term, entry-fits, machine-term, term-fits, sum-fits, machine-sum}
-use Rattle.half_sum.proofs.sums.weighted.Statement.{statement}
-use Rattle.half_sum.proofs.sums.weighted.Tie as tie
+use Rattle.water.proofs.integral.Terms.{term, entry-fits, machine-term, term-fits, sum-fits, machine-sum}
+use Rattle.water.proofs.integral.weighted.Statement.{statement}
+use Rattle.water.proofs.integral.weighted.Tie as tie
 
 abbrev Inv-loop : tie.InvT-loop
 Inv-loop m c w sum₀ j₀ sum j = (j ≤ m) × (toZ w64 sum ≡ Sum·sum j (term c w))
 
 abbrev μ-loop : tie.MeasureT-loop
 μ-loop m c w sum₀ j₀ sum j = m - j
+
+loop-holds : tie.Need-loop-holds Inv-loop μ-loop
+unfolding Sum·sum
+loop-holds c =
+    let b = c .before .before in (
+      omega arith,
+      computed-is (machine-term (b .args .c .now) (b .args .w .now) (b .pre .2) (b .pre .3) 0 (omega arith))
+          (term-fits (b .args .c .now) (b .args .w .now) (b .pre .2) (b .pre .3) 0 (omega arith)),
+    )
+
+loop-again : tie.Need-loop-again Inv-loop μ-loop
+loop-again c =
+    let l = c .before .before .before in
+    let b = l .before .before .before in (
+      omega arith,
+      rw (machine-sum (b .args .c .now) (b .args .w .now) (b .pre .2) (b .pre .3) _ (l .loop .j) (omega arith) (l .loop .inv .1))
+          (toZ-ofZ (sum-fits (b .args .c .now) (b .args .w .now) (b .pre .2) (b .pre .3) (l .loop .j + 1) (omega arith))),
+    )
+
+returns : tie.Need-returns Inv-loop μ-loop
+returns c =
+    let e : c .before .loop .j ≡ c .before .before .before .before .args .m = omega arith in
+    rw (← e) (c .before .loop .inv .1)
+
+-- ---- the needs
 
 shared-slice-read-sum : tie.Need-shared-slice-read-sum Inv-loop μ-loop
 shared-slice-read-sum c = omega arith
@@ -29,15 +54,6 @@ shared-slice-copy-out-sum c = omega (arith, c .before .pre .3 .count)
 mul-sum : tie.Need-mul-sum Inv-loop μ-loop
 mul-sum c = let b = c .before .before in rw (machine-term (b .args .c .now) (b .args .w .now) (b .pre .2) (b .pre .3) 0 (omega arith))
     (term-fits (b .args .c .now) (b .args .w .now) (b .pre .2) (b .pre .3) 0 (omega arith))
-
-loop-holds : tie.Need-loop-holds Inv-loop μ-loop
-unfolding Sum·sum
-loop-holds c =
-    let b = c .before .before in (
-      omega arith,
-      computed-is (machine-term (b .args .c .now) (b .args .w .now) (b .pre .2) (b .pre .3) 0 (omega arith))
-          (term-fits (b .args .c .now) (b .args .w .now) (b .pre .2) (b .pre .3) 0 (omega arith)),
-    )
 
 add-j : tie.Need-add-j Inv-loop μ-loop
 add-j c = omega arith
@@ -74,20 +90,6 @@ add-sum c =
 
 loop-less : tie.Need-loop-less Inv-loop μ-loop
 loop-less c = omega arith
-
-loop-again : tie.Need-loop-again Inv-loop μ-loop
-loop-again c =
-    let l = c .before .before .before in
-    let b = l .before .before .before in (
-      omega arith,
-      rw (machine-sum (b .args .c .now) (b .args .w .now) (b .pre .2) (b .pre .3) _ (l .loop .j) (omega arith) (l .loop .inv .1))
-          (toZ-ofZ (sum-fits (b .args .c .now) (b .args .w .now) (b .pre .2) (b .pre .3) (l .loop .j + 1) (omega arith))),
-    )
-
-returns : tie.Need-returns Inv-loop μ-loop
-returns c =
-    let e : c .before .loop .j ≡ c .before .before .before .before .args .m = omega arith in
-    rw (← e) (c .before .loop .inv .1)
 
 pub weighted-spec : {M : Type 1} → statement M
 weighted-spec =

@@ -16,13 +16,14 @@ use Rattle.integer.specs.Within.{Within}
 use Rattle.integer.proofs.Within.{within-natural, within-mul, within-fits, within-sum, shares-most}
 use Rattle.hermite.specs.Polynomial.{coefficient}
 use Rattle.hermite.specs.Water.{waterUnit}
-use Rattle.knot_weights.specs.Machine.{Entries, Weights}
+use Rattle.knot_weights.specs.Machine.{Weights}
 use Rattle.rounding.specs.Limits.{sizeMax}
+use Rattle.water.specs.Machine.{Entries}
 
 abbrev pub term : List ℕ → List ℤ → ℕ → ℤ
 term c w j = pos (getD c j 0) *ℤ coefficient w j
 
-module _ (c : List ℕ) (w : List ℤ) (entries : Entries c) (weights : Weights (7 * sizeMax) w) where
+module _ (c : List ℕ) (w : List ℤ) (entries : Entries c) (weights : Weights sizeMax w) where
   pub entry-fits : (j : ℕ) → SFits w64 (pos (getD c j 0))
   entry-fits j = record { sfits = omega (arith, entries .small j) }
 
@@ -30,17 +31,17 @@ module _ (c : List ℕ) (w : List ℤ) (entries : Entries c) (weights : Weights 
   machine-term j h =
       rw (toZ-ofZ (within-fits w64 (coefficient w j) (lit< tt) (weights .small j h)), toZ-pos w64 {n = getD c j 0} (omega (arith, entries .small j))) refl
 
-  term-within : (j : ℕ) → j ≤ 7 → Within (getD c j 0 * (7 * sizeMax)) (term c w j)
+  term-within : (j : ℕ) → j ≤ 7 → Within (getD c j 0 * sizeMax) (term c w j)
   term-within j h = within-mul (pos (getD c j 0)) (coefficient w j) (within-natural (getD c j 0)) (weights .small j h)
 
   pub term-fits : (j : ℕ) → j ≤ 7 → SFits w64 (term c w j)
-  term-fits j h = within-fits w64 (term c w j) (lt-of-le-of-lt (mul-le-mul-right (7 * sizeMax) (entries .small j)) (lit< tt)) (term-within j h)
+  term-fits j h = within-fits w64 (term c w j) (lt-of-le-of-lt (mul-le-mul-right sizeMax (entries .small j)) (lit< tt)) (term-within j h)
 
   pub sum-fits : (m : ℕ) → m ≤ 7 → SFits w64 (sum m (term c w))
   sum-fits m h =
       let terms : m + 1 ≤ 8 = omega arith in
       within-fits w64 (sum m (term c w)) (lit< tt)
-      (within-sum (7 * sizeMax) (8 * waterUnit) m (λ j. getD c j 0) (term c w)
+      (within-sum sizeMax (8 * waterUnit) m (λ j. getD c j 0) (term c w)
       (le-trans (shares-most waterUnit m (λ j. getD c j 0) (λ j k. entries .small j)) (mul-le-mul-right waterUnit terms)) (λ j k. term-within j (omega arith)))
 
   -- the sum with one term more
