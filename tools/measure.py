@@ -7,7 +7,7 @@ Each commit is copied to a folder of its own and gets the crate `measured` (meas
 built as a library for C. One program (measured/timing.c) has both libraries. Times are taken from both in turn, 41
 times in each of three runs, and the least of each is told. Instructions are counted by callgrind, as the difference of
 n rounds and 2n. Copies are the calls of memcpy, counted by the linker's --wrap; what they take is told by a program
-that makes each of them twice. It takes some ten minutes and wants an otherwise idle machine, with gcc and valgrind.
+that makes each of them twice. It takes some twelve minutes and wants an otherwise idle machine, with gcc and valgrind.
 """
 import random
 import re
@@ -25,7 +25,7 @@ from measured.crate import CALLS, PIECES, put
 
 HERE = Path(__file__).resolve().parent
 SIDES = ("before", "after")
-GRADES = (0, 1, 3, 7)
+SHOWN = (0, 1, 3, GRADE_MAX)
 COUNTS = (2, 9, 33, KNOTS_MAX)
 GAP = 13
 WRAPPED = "-Wl,--wrap=memcpy"
@@ -53,7 +53,7 @@ def built(folder, side, commit):
 
 
 def compiled(folder, libraries, name, *options):
-    sizes = [f"-D{n}={','.join(map(str, sizes))}" for n, sizes in (("GRADES", GRADES), ("COUNTS", COUNTS), ("GAP", (GAP,)))]
+    sizes = [f"-DGRADES={GRADE_MAX + 1}", f"-DCOUNTS={','.join(map(str, COUNTS))}", f"-DGAP={GAP}"]
     run("gcc", "-O2", *sizes, *options, str(HERE / "measured" / "timing.c"), *libraries, "-o", str(folder / name))
 
 
@@ -107,10 +107,22 @@ def head(*cells):
 def tell_pieces(folder, times):
     head("one piece", "grade", "ns before", "ns after", "after / before", "instructions before", "after")
     for name in PIECES:
-        for grade in GRADES:
-            before, after = times["piece", name, grade]
-            counts = [sum(instructions(folder, side, "piece", name, grade)) for side in SIDES]
+        for grade in SHOWN:
+            both = 11 * grade  # of one grade at both ends
+            before, after = times["piece", name, both]
+            counts = [sum(instructions(folder, side, "piece", name, both)) for side in SIDES]
             tell(name, grade, before, after, f"{after / before:.2f}", *counts)
+
+
+def tell_pairs(times):
+    """Over all pairs of grades, the least and the greatest ratio, with the grades of both ends."""
+    print()
+    head("one piece, all pairs of grades", "least after / before", "at", "greatest", "at")
+    for name in PIECES:
+        sizes = [size for kind, n, size in times if (kind, n) == ("piece", name)]
+        ratios = sorted((times["piece", name, size][1] / times["piece", name, size][0], size) for size in sizes)
+        ends = [(f"{ratio:.2f}", "{} and {}".format(*divmod(size, 10))) for ratio, size in (ratios[0], ratios[-1])]
+        tell(name, *ends[0], *ends[1])
 
 
 def call_counts(folder, name):
@@ -168,6 +180,7 @@ def main(commits):
         compiled(folder, libraries, "twice", "-DTWICE", WRAPPED)
         times, twice = times_of(folder, "timing", "twice")
         tell_pieces(folder, times)
+        tell_pairs(times)
         tell_calls(folder, times, twice)
         tell_growth(times)
         tell_reports(folder)

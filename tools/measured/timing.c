@@ -1,9 +1,11 @@
 /* Calls the functions of the crate `measured`, of two states of the repository that are linked side by side.
 
    timing times                             a line for each measure: its name, and nanoseconds before and after
-   timing run SIDE KIND MEASURE SIZE ROUNDS  one measure, so often: of a piece of this grade or a reel of so many knots
+   timing run SIDE KIND MEASURE SIZE ROUNDS  one measure, so often: of a piece or a reel of this size
 
-   The blocks are files of the folder that it is run in. GRADES, COUNTS and GAP are given where it is compiled. */
+   The size of a reel is its number of knots, that of a piece is 10 times the grade of its left end and the grade of its
+   right end together. The blocks are files of the folder that it is run in. GRADES, COUNTS and GAP are given where it is
+   compiled. */
 #define _POSIX_C_SOURCE 199309L
 #include <stdint.h>
 #include <stdio.h>
@@ -27,10 +29,10 @@ static const struct reel_measure calls[] = {
     {"append", {SIDES(reel_append)}}, {"correct", {SIDES(reel_correct)}}, {"read", {SIDES(reel_read)}},
     {"write", {SIDES(reel_write)}},   {"value", {SIDES(reel_value)}},     {"trend", {SIDES(reel_trend)}},
     {"total", {SIDES(reel_total)}}};
-static const int grades[] = {GRADES}, counts[] = {COUNTS};
+static const int counts[] = {COUNTS};
 #define EACH(i, list) (size_t i = 0; i < sizeof list / sizeof *list; i++)
 
-/* pieces of one grade at both ends, with weights up to the size rule's limit */
+/* pieces with weights up to the size rule's limit */
 enum { PIECES = 512, REPEATS = 41 };
 static int32_t left[PIECES][8], right[PIECES][8];
 static uint64_t place[PIECES];
@@ -38,13 +40,13 @@ static uint64_t place[PIECES];
 static uint64_t seed = 88172645463325252u;
 static uint64_t chance(void) { seed ^= seed << 13; seed ^= seed >> 7; seed ^= seed << 17; return seed; }
 
-static void make_pieces(int grade)
+static void make_pieces(int size)
 {
     for (int i = 0; i < PIECES; i++) {
         int64_t most = 268435456;
         for (int j = 0; j < 8; j++, most /= GAP) {
-            left[i][j] = j <= grade ? (int32_t)(chance() % (2 * most + 1)) - (int32_t)most : 0;
-            right[i][j] = j <= grade ? (int32_t)(chance() % (2 * most + 1)) - (int32_t)most : 0;
+            left[i][j] = j <= size / 10 ? (int32_t)(chance() % (2 * most + 1)) - (int32_t)most : 0;
+            right[i][j] = j <= size % 10 ? (int32_t)(chance() % (2 * most + 1)) - (int32_t)most : 0;
         }
         place[i] = chance() % (256 * GAP + 1);
     }
@@ -73,12 +75,12 @@ static uint32_t argument(const char *call, int count)
 }
 
 /* rounds of a measure; those of one piece go round the pieces */
-static int64_t piece_rounds(piece_function *f, int grade, long rounds)
+static int64_t piece_rounds(piece_function *f, int size, long rounds)
 {
     uint64_t gathered = 0;
     for (long i = 0; i < rounds; i++) {
         int k = i % PIECES;
-        gathered = 31 * gathered + (uint64_t)f(GAP, left[k], grade + 1, right[k], grade + 1, place[k]);
+        gathered = 31 * gathered + (uint64_t)f(GAP, left[k], size / 10 + 1, right[k], size % 10 + 1, place[k]);
     }
     return (int64_t)gathered;
 }
@@ -111,19 +113,19 @@ static void compare(const char *name, const int64_t answer[2])
     if (answer[0] != answer[1]) { printf("%s: the answers differ\n", name); exit(1); }
 }
 
-static void piece_times(const struct piece_measure *measure, int grade)
+static void piece_times(const struct piece_measure *measure, int size)
 {
     double time[2] = {0, 0};
     int64_t answer[2];
     for (int r = 0; r < REPEATS; r++)
         for (int s = 0; s < 2; s++) {
             double from = now();
-            answer[s] = piece_rounds(measure->side[s], grade, 40 * PIECES);
+            answer[s] = piece_rounds(measure->side[s], size, 40 * PIECES);
             least(&time[s], from);
         }
     compare(measure->name, answer);
     for (int s = 0; s < 2; s++) time[s] /= 40 * PIECES;
-    tell("piece", measure->name, grade, time);
+    tell("piece", measure->name, size, time);
 }
 
 /* a call is the difference of many rounds and a few, which leaves out the block's reading and the last writing */
@@ -155,9 +157,10 @@ static const struct reel_measure *call_named(const char *name)
 /* both sides in turn; what both answer is compared */
 static void all_times(void)
 {
-    for EACH(g, grades) {
-        make_pieces(grades[g]);
-        for EACH(m, pieces) piece_times(&pieces[m], grades[g]);
+    for (int i = 0; i < GRADES * GRADES; i++) {
+        int size = 10 * (i / GRADES) + i % GRADES;
+        make_pieces(size);
+        for EACH(m, pieces) piece_times(&pieces[m], size);
     }
     for EACH(c, counts)
         for EACH(m, calls) {
