@@ -1,19 +1,22 @@
 -- A half-sum in its two parts, steps 1 and 2, and step 3: what they come to, and that u fits between them.
 use mathlib.Core.Path.{_≡_, refl, _∙_, ap, ap₂}
-use Prim.Native.Nat.{ℕ, zero, suc, _+_, _*_, _-_, _^_, _≤_, _<_}
+use mathlib.Core.List.{List}
+use Prim.Native.Nat.{ℕ, zero, suc, _+_, _*_, _-_, _^_, _≤_}
 use native.Mathlib.Omega.{arith}
 use lib.Dec.{lit≤}
 use lib.IntN.{ℤ}
 use Rattle.integer.specs.Within.{Within}
 use Rattle.integer.proofs.Within.{within-more, within-natural}
 use Rattle.hermite.specs.HalfSum.{g}
+use Rattle.hermite.specs.Polynomial.{coefficient}
 use Rattle.hermite.specs.Slope.{primed}
 use Rattle.rounding.specs.HalfSum.{halfSum, lowerHalfSum}
 use Rattle.rounding.specs.Limits.{sizeMax}
 use Rattle.rounding.specs.Scaling.{scaledTimes}
 use Rattle.rounding.proofs.Agree.{Agree, steps-1-and-2-agree, lowerHalfSum-agree}
 use Rattle.rounding.proofs.Bounds.{g-within, descended-fits, primed-within}
-use Rattle.scaling.specs.Machine.{Complements}
+use Rattle.knot_weights.specs.Machine.{Weights}
+use Rattle.scaling.specs.Machine.{Complements, Prepared}
 use Rattle.scaling.specs.declared.fraction.Fraction.{Fraction}
 use Rattle.scaling.proofs.Complements.{numerator-is, by-complement}
 use Rattle.half_sum.specs.Machine.{steps1And2, lowerSteps1And2, lowerStep3}
@@ -38,13 +41,20 @@ module _ {s t : Fraction} (pair : Complements s t) (m n : ℕ) {w v : ℕ → �
 
 -- ---- that u fits
 
-module _ (n a d : ℕ) (hn : n ≤ 7) (h : 0 < d) (b : a ≤ d) where
-  pub steps-1-and-2-fit : (m : ℕ) → m ≤ 7 → (w : ℕ → ℤ) → ((j : ℕ) → j ≤ m → Within (7 * sizeMax) (w j)) → Within (2 ^ 63 - 1) (steps1And2 m n a d w)
-  steps-1-and-2-fit m hm w small =
-      descended-fits (g n w) a d m 0 h b (omega arith) (λ j k. g-within (7 * sizeMax) n j w hn (omega arith) (λ i l. small i (omega arith)))
+module _ {s : Fraction} (prepared : Prepared s) (n : ℕ) (hn : n ≤ 7) where
+  fit : (m : ℕ) → m ≤ 7 → (w : ℕ → ℤ) → ((j : ℕ) → j ≤ m → Within (7 * sizeMax) (w j)) → Within (2 ^ 63 - 1) (steps1And2 m n (s .a) (s .d) w)
+  fit m hm w small =
+      descended-fits (g n w) (s .a) (s .d) m 0 (prepared .divides .atLeast) (prepared .proper) (omega arith)
+      (λ j k. g-within (7 * sizeMax) n j w hn (omega arith) (λ i l. small i (omega arith)))
 
-  pub lower-steps-1-and-2-fit : (m : ℕ) → m ≤ 7 → (w : ℕ → ℤ) → ((j : ℕ) → j ≤ m → Within sizeMax (w j)) → Within (2 ^ 63 - 1) (lowerSteps1And2 m n a d w)
+  lower-fit : (m : ℕ) → m ≤ 7 → (w : ℕ → ℤ) → ((j : ℕ) → j ≤ m → Within sizeMax (w j)) → Within (2 ^ 63 - 1) (lowerSteps1And2 m n (s .a) (s .d) w)
   unfolding lowerSteps1And2
-  lower-steps-1-and-2-fit zero hm w small = within-more (lit≤ tt) (within-natural 0)
-  lower-steps-1-and-2-fit (suc m) hm w small =
-      steps-1-and-2-fit m (omega arith) (primed w) (λ j k. primed-within w j (omega arith) (small (j + 1) (omega arith)))
+  lower-fit zero hm w small = within-more (lit≤ tt) (within-natural 0)
+  lower-fit (suc m) hm w small = fit m (omega arith) (primed w) (λ j k. primed-within w j (omega arith) (small (j + 1) (omega arith)))
+
+  -- of an array of weights
+  pub steps-1-and-2-fit : (m : ℕ) → m ≤ 7 → {w : List ℤ} → Weights (7 * sizeMax) w → Within (2 ^ 63 - 1) (steps1And2 m n (s .a) (s .d) (coefficient w))
+  steps-1-and-2-fit m hm weights = fit m hm _ (λ j k. weights .small j (omega arith))
+
+  pub lower-steps-1-and-2-fit : (m : ℕ) → m ≤ 7 → {w : List ℤ} → Weights sizeMax w → Within (2 ^ 63 - 1) (lowerSteps1And2 m n (s .a) (s .d) (coefficient w))
+  lower-steps-1-and-2-fit m hm weights = lower-fit m hm _ (λ j k. weights .small j (omega arith))

@@ -44,16 +44,16 @@ first w i = sum-cong i _ _ (λ j h. sym (ap (λ x. pos x *ℤ w j) (edge-of j) �
     edge-of : (j : ℕ) → binomial (0 + i - j) (i - j) ≡ 1
     edge-of j = let e : 0 + i - j ≡ i - j = omega arith in rw e (edge (i - j))
 
--- what multiplies w_j in g_i, against n
-abbrev term : ℕ → (ℕ → ℤ) → ℕ → ℕ → ℤ
-term n w i j = pos (binomial (n + i - j) (i - j)) *ℤ w j
+-- the summand of g_i at j, against n
+abbrev summand : ℕ → (ℕ → ℤ) → ℕ → ℕ → ℤ
+summand n w i j = pos (binomial (n + i - j) (i - j)) *ℤ w j
 
-added : (n : ℕ) (w : ℕ → ℤ) (i j : ℕ) → j ≤ i → term (suc n) w i j +ℤ term n w (suc i) j ≡ term (suc n) w (suc i) j
+added : (n : ℕ) (w : ℕ → ℤ) (i j : ℕ) → j ≤ i → summand (suc n) w i j +ℤ summand n w (suc i) j ≡ summand (suc n) w (suc i) j
 added n w i j h =
     sym (*ℤ-distrib-right (pos (binomial (suc n + i - j) (i - j))) (pos (binomial (n + suc i - j) (suc i - j))) (w j)) ∙
     ap (λ x. pos x *ℤ w j) (sym (pascal n i j h))
 
-last : (n : ℕ) (w : ℕ → ℤ) (i : ℕ) → term n w i i ≡ term (suc n) w i i
+last : (n : ℕ) (w : ℕ → ℤ) (i : ℕ) → summand n w i i ≡ summand (suc n) w i i
 unfolding binomial
 last n w i = let e : i - i ≡ 0 = omega arith in rw e refl
 
@@ -63,8 +63,8 @@ unfolding oneRound sum g
 next n w zero = last n w zero
 next n w (suc i) =
     ap (λ x. x +ℤ g n w (suc i)) (next n w i) ∙
-    sym (+ℤ-assoc (sum i (term (suc n) w i)) (sum i (term n w (suc i))) (term n w (suc i) (suc i))) ∙
-    ap₂ (λ x y. x +ℤ y) (sym (sum-+ i (term (suc n) w i) (term n w (suc i))) ∙ sum-cong i _ _ (added n w i)) (last n w (suc i))
+    sym (+ℤ-assoc (sum i (summand (suc n) w i)) (sum i (summand n w (suc i))) (summand n w (suc i) (suc i))) ∙
+    ap₂ (λ x y. x +ℤ y) (sym (sum-+ i (summand (suc n) w i) (summand n w (suc i))) ∙ sum-cong i _ _ (added n w i)) (last n w (suc i))
 
 -- n+1 rounds of the weights
 all-rounds : (n : ℕ) (w : ℕ → ℤ) (i : ℕ) → rounds (suc n) w i ≡ g n w i

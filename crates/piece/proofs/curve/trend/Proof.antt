@@ -117,9 +117,7 @@ module _ (c : tie.After-sum-k2) where
   u-fits : Within (2 ^ 63 - 1) (toZ w64 (ofZ w64 (first .lower-steps-1-and-2 .result)))
   u-fits =
       let e = weighed c in
-      rw u-is (lower-steps-1-and-2-fit (n (P e)) (s e .a) (s e .d) (right-grade (P e) (admitted e)) (pair e .prepared .divides .atLeast)
-      (pair e .prepared .proper) (m (P e)) (left-grade (P e) (admitted e)) (coefficient (left e))
-      (λ j h. left-small e .small j (le-trans h (left-grade (P e) (admitted e)))))
+      rw u-is (lower-steps-1-and-2-fit (pair e .prepared) (n (P e)) (right-grade (P e) (admitted e)) (m (P e)) (left-grade (P e) (admitted e)) (left-small e))
 
   v-is : toZ w64 (ofZ w64 (second .lower-steps-1-and-22 .result)) ≡ lowerSteps1And2 (n (P (weighed c))) (m (P (weighed c))) (complement (weighed c) .a)
       (complement (weighed c) .d) (coefficient (right (weighed c)))
@@ -128,9 +126,7 @@ module _ (c : tie.After-sum-k2) where
   v-fits : Within (2 ^ 63 - 1) (toZ w64 (ofZ w64 (second .lower-steps-1-and-22 .result)))
   v-fits =
       let e = weighed c in
-      rw v-is (lower-steps-1-and-2-fit (m (P e)) (complement e .a) (complement e .d) (left-grade (P e) (admitted e)) (pair e .other .divides .atLeast)
-      (pair e .other .proper) (n (P e)) (right-grade (P e) (admitted e)) (coefficient (right e))
-      (λ j h. right-small e .small j (le-trans h (right-grade (P e) (admitted e)))))
+      rw v-is (lower-steps-1-and-2-fit (pair e .other) (m (P e)) (left-grade (P e) (admitted e)) (n (P e)) (right-grade (P e) (admitted e)) (right-small e))
 
 -- Y1, Y2, Y3, and Y1 − Y2 + Y3
 module _ (c : tie.After-scaled-k) where

@@ -89,18 +89,16 @@ module _ (c : tie.After-steps-1-and-22) where
   u-is = result-is (c .before .before .steps-1-and-2 .result) (c .before .before .steps-1-and-2 .ok) ∙ c .before .before .steps-1-and-2 .ensures .0
 
   u-fits : Within (2 ^ 63 - 1) (toZ w64 (ofZ w64 (c .before .before .steps-1-and-2 .result)))
-  u-fits = rw u-is (steps-1-and-2-fit (n (P weighed)) (s weighed .a) (s weighed .d) (right-grade (P weighed) (admitted weighed))
-      (pair weighed .prepared .divides .atLeast) (pair weighed .prepared .proper) (m (P weighed)) (left-grade (P weighed) (admitted weighed))
-      (coefficient (left weighed)) (λ j h. left-small weighed .small j (le-trans h (left-grade (P weighed) (admitted weighed)))))
+  u-fits = rw u-is (steps-1-and-2-fit (pair weighed .prepared) (n (P weighed)) (right-grade (P weighed) (admitted weighed)) (m (P weighed))
+      (left-grade (P weighed) (admitted weighed)) (left-small weighed))
 
   v-is : toZ w64 (ofZ w64 (c .steps-1-and-22 .result)) ≡ steps1And2 (n (P weighed)) (m (P weighed)) (complement weighed .a) (complement weighed .d)
       (coefficient (right weighed))
   v-is = result-is (c .steps-1-and-22 .result) (c .steps-1-and-22 .ok) ∙ c .steps-1-and-22 .ensures .0
 
   v-fits : Within (2 ^ 63 - 1) (toZ w64 (ofZ w64 (c .steps-1-and-22 .result)))
-  v-fits = rw v-is (steps-1-and-2-fit (m (P weighed)) (complement weighed .a) (complement weighed .d) (left-grade (P weighed) (admitted weighed))
-      (pair weighed .other .divides .atLeast) (pair weighed .other .proper) (n (P weighed)) (right-grade (P weighed) (admitted weighed))
-      (coefficient (right weighed)) (λ j h. right-small weighed .small j (le-trans h (right-grade (P weighed) (admitted weighed)))))
+  v-fits = rw v-is (steps-1-and-2-fit (pair weighed .other) (m (P weighed)) (left-grade (P weighed) (admitted weighed)) (n (P weighed))
+      (right-grade (P weighed) (admitted weighed)) (right-small weighed))
 
 -- the two half-sums
 module _ (c : tie.After-scaled-times2) where
