@@ -1,5 +1,5 @@
 #!/usr/bin/env python3
-"""Document 01 in exact fractions, with request 1/14 of document 02: what the engine's numbers are held against.
+"""Document 01 in exact fractions, with requests 1/14 and 3/14 of document 02: what the engine's numbers are held against.
 
 Written from the documents, in their letters, and not from the Rattle text: the blend is formula (1)
 multiplied out, the derivative comes by differentiating it and the total by integrating it. Every case

@@ -1,1 +1,1 @@
-"""Document 01 in exact fractions, with request 1/14 of document 02. It knows nothing of the stored files."""
+"""Document 01 in exact fractions, with requests 1/14 and 3/14 of document 02. It knows nothing of the stored files."""

@@ -73,22 +73,29 @@ class Reel:
         k = max(k for k, start in enumerate(starts) if start <= x)
         return self.piece(k), x - starts[k]
 
-    def asked(self, query, x):
+    def trend_place(self, x):
+        """The piece of a trend, and r in it: at an inner knot of grade 0 the piece on its left, at its right end (request 3/14)."""
+        for k, (position, coefficients) in enumerate(self.knots[1:-1]):
+            if x == UNIT_OF_POSITION * position and len(coefficients) == 1:
+                return self.piece(k), self.piece(k).D
+        return self.place(x)
+
+    def asked(self, query, place, x):
         """Value or trend at the query position x, with all that demand 3 says of it held."""
         if len(self.knots) < 2:
             return 8
         if not UNIT_OF_POSITION * self.knots[0][0] <= x <= UNIT_OF_POSITION * self.knots[-1][0]:
             return 7
-        piece, r = self.place(x)
+        piece, r = place(x)
         hold_ends(piece)
         hold_distances(piece, r)
         return [query(piece, r)]
 
     def value(self, x):
-        return self.asked(value, x)
+        return self.asked(value, self.place, x)
 
     def trend(self, x):
-        return self.asked(trend, x)
+        return self.asked(trend, self.trend_place, x)
 
     def total(self, i, j):
         """Pieces i to j−1, each the exact integral of its blend."""

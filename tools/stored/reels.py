@@ -1,4 +1,6 @@
-"""Lists of knots to try things with: of mixed grades, and of all pairs of grades."""
+"""Lists of knots to try things with: of mixed grades, of all pairs of grades, and with inner knots of grade 0."""
+import random
+
 from document.coefficients import extreme, ordinary
 from document.knot import GAP_MAX, GRADE_MAX, KNOTS_MAX, POSITION_MAX, SIZE_MAX
 
@@ -32,3 +34,29 @@ def reel_of_all_pairs(chance, turn):
     gaps = [(2 * turn + k // 64 + 5 * (k % 64)) % GAP_MAX + 1 for k in range(KNOTS_MAX - 1)]
     first = POSITION_MAX - sum(gaps) if turn == 7 else 7 * turn
     return laid_out(chance, first, grades + grades[:1], gaps, (ordinary, ordinary, extreme))
+
+
+def lone_readings_among(chance, first, grades):
+    """Knots of these grades with a knot of grade 0 between each two. Its gaps differ: by turns the left one is the lesser
+    and the greater."""
+    gaps = []
+    for k in range(len(grades) - 1):
+        gaps += sorted(chance.sample(range(1, GAP_MAX + 1), 2), reverse=k % 2)
+    among = [grade for left in grades for grade in (left, 0)][:-1]
+    return laid_out(chance, first, among, gaps, (ordinary,))
+
+
+def reels_of_lone_readings():
+    """With inner knots of grade 0 (request 3/14): between neighbours of all pairs of grades, in short reels and in a full
+    one; with first and last knots of grade 0 beside knots of other grades; of knots of grade 0 alone, and of two of them,
+    which are no inner ones."""
+    chance = random.Random(8)
+    for m in range(GRADE_MAX + 1):
+        for n in range(GRADE_MAX + 1):
+            yield lone_readings_among(chance, 100 * n, (m, n, m))
+    for n in range(1, GRADE_MAX + 1):
+        gaps = chance.sample(range(1, GAP_MAX + 1), 4)
+        yield laid_out(chance, 500 * n, (0, n, 0, GRADE_MAX + 1 - n, 0), gaps, (ordinary,))
+    yield lone_readings_among(chance, 0, [*cycle_of_grades(), 0])
+    yield lone_readings_among(chance, POSITION_MAX - 200, [0] * 6)
+    yield [(5, (7,)), (8, (-4,))]

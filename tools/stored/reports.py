@@ -10,7 +10,7 @@ from document.known_results import WORKED
 from document.report import INPUT_MAX, report_of
 from stored.faults import SOUND, all_faults, faulty
 from stored.readings import greatest_block, tried_blocks
-from stored.reels import laid_out, reel_of_all_pairs
+from stored.reels import laid_out, reel_of_all_pairs, reels_of_lone_readings
 
 
 def blocks_at_limits():
@@ -75,7 +75,8 @@ def blocks_with_readings():
 
 def stored_reports():
     """Blocks and their reports; every number that a report can have is among them, twice at least."""
-    blocks = [*blocks_at_limits(), *blocks_by_chance(), *faulty_blocks(), *blocks_with_readings()]
+    lone_readings = map(block_of, reels_of_lone_readings())
+    blocks = [*blocks_at_limits(), *blocks_by_chance(), *faulty_blocks(), *blocks_with_readings(), *lone_readings]
     stored = [(block, report_of(block)) for block in blocks]
     numbers = Counter(report for _, report in stored)
     for number in (1, 2, 4, 5, 6, 8, 12):

@@ -10,6 +10,7 @@ from stored.parts.full_reels import a_flat_reel, full_reels, greatest_totals
 from stored.parts.lines import lines_passed_over, long_lines, the_last_line, unreadable_lines
 from stored.parts.queries import (
     all_pairs_and_gaps, all_ranges, all_ranges_to_the_limits, around_knots, known_results, queries_of_few_knots, refused_queries,
+    trends_at_lone_readings,
 )
 from stored.parts.readings import (
     bits_of_readings, causes_of_views, chosen_knots, forms_of_views, full_blocks, operators_answers, products,
@@ -55,6 +56,7 @@ PARTS = [
     forms_of_views,
     readings_by_chance_tried,
     full_blocks,
+    trends_at_lone_readings,
     the_last_line,
 ]
 

@@ -10,10 +10,10 @@ use lib.ListN.{length}
 use Rattle.rounding.specs.Water.{total as Water·total}
 use Rattle.scans.specs.Scan.{Scan}
 use Rattle.scans.specs.Standing.{Standing}
-use Rattle.scans.specs.Pieces.{mark, InReel, pieceOf}
+use Rattle.scans.specs.Pieces.{mark, pieceOf}
 use Rattle.scans.specs.Queries.{valueAt, trendAt, sumFrom, totalOver}
 use Rattle.scans.proofs.Order.{query-free, range-free}
-use Rattle.scans.proofs.Pieces.{rises}
+use Rattle.scans.proofs.Pieces.{knot-in-reel}
 use Rattle.calls.specs.Calls.{number, value, trend, total, replyTo}
 use Rattle.calls.proofs.Effects.{acceptance-replies}
 
@@ -23,18 +23,11 @@ module _ (scans : List Scan) (st : Standing scans) where
       acceptance-replies (total i j) scans (range-free (length scans) i j two (record { order = order; last = last }))
 
   module _ (k : ℕ) (h : suc k < length scans) where
-    at-knot : InReel scans (mark scans k)
-    at-knot = record {
-      two = omega arith;
-      first = rises scans st 0 k (omega arith) (omega arith);
-      last = rises scans st k (length scans - 1) (omega arith) (omega arith);
-    }
-
     pub value-there : replyTo (value (mark scans k)) scans ≡ number (valueAt scans (mark scans k))
-    value-there = acceptance-replies (value (mark scans k)) scans (query-free scans (mark scans k) at-knot)
+    value-there = acceptance-replies (value (mark scans k)) scans (query-free scans (mark scans k) (knot-in-reel scans st k h))
 
     pub trend-there : replyTo (trend (mark scans k)) scans ≡ number (trendAt scans (mark scans k))
-    trend-there = acceptance-replies (trend (mark scans k)) scans (query-free scans (mark scans k) at-knot)
+    trend-there = acceptance-replies (trend (mark scans k)) scans (query-free scans (mark scans k) (knot-in-reel scans st k h))
 
     one-piece : totalOver scans k (suc k) ≡ Water·total (pieceOf scans k)
     unfolding totalOver sumFrom

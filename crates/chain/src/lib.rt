@@ -1,4 +1,5 @@
-// The chain of pieces between the knots of a reel: which piece a position is in, and value, trend and total there.
+// The chain of pieces between the knots of a reel: which piece a position is in, which one its trend is taken from, and
+// value, trend and total.
 mod place;
 mod queries;
 

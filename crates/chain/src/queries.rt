@@ -11,6 +11,7 @@ ghost use Rattle.scans.specs.Pieces.{between};
 ghost use Rattle.scans.specs.Queries.{totalOver, trendAt, valueAt};
 ghost use Rattle.chain.specs.Machine.{Chained, Reached};
 use crate::place::piece_at;
+use crate::place::piece_of_trend;
 use knot::KNOTS_MAX;
 use knot::Knot;
 use knot::gap;
@@ -80,7 +81,9 @@ pub fn trend(knots: [Knot; KNOTS_MAX], count: usize, x: u32) -> i64
     requires { ⌜ Reached knots count x ⌝ }
     ensures { λ z. ⌜ z ≡ trendAt (scansIn count knots) x ⌝ }
 {
-    let k = piece_at(knots, count, x);
+    let assigned = piece_at(knots, count, x);
+    let start = knots[assigned];
+    let k = piece_of_trend(start, assigned, x);
     let left = knots[k];
     let right = knots[k + 1];
     trend_between(left, right, x as u64 - POSITION_UNIT * left.position as u64)

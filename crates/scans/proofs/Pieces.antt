@@ -1,23 +1,24 @@
 -- The pieces of a list of scans: whose Taylor coefficients each has, that of scans that stand each is one that a reel can hold, and that every
--- query position in the reel is in exactly one piece, the one that document 01 assigns.
-use borrow.Author.Tests.{ltb-true, ltb-false}
-use mathlib.Core.Bool.{Bool, true, false, cond}
+-- query position in the reel lies at exactly one place, for a value and for a trend.
+use borrow.Author.Tests.{eqb-true, eq-eqb, ne-eqb, ltb-true, ltb-false, lt-ltb}
+use mathlib.Core.Bool.{Bool, true, false, _&&_, cond, or-true, true≢false}
 use mathlib.Core.List.{List}
-use mathlib.Core.Logic.{_⊎_, inl, inr}
-use mathlib.Core.Path.{_≡_, refl}
-use Prim.Native.Nat.{ℕ, zero, suc, _+_, _*_, _-_, _≤_, _<_}
+use mathlib.Core.Path.{_≡_, refl, sym, _∙_, ap, ap₂}
+use Prim.Native.Nat.{ℕ, zero, suc, _+_, _-_, _≤_, _<_}
 use native.Mathlib.Decide.{decLt}
 use native.Mathlib.Omega.{arith}
-use lib.Dec.{ltb}
+use lib.Dec.{eqb, ltb}
 use lib.ListN.{length}
+use Rattle.integer.proofs.Tests.{both, both-first, both-second, not-yes}
 use Rattle.hermite.specs.Blend.{taylorLeft, taylorRight}
-use Rattle.rounding.specs.Piece.{weight, exactBlend}
+use Rattle.rounding.specs.Piece.{weight, exactBlend, D}
 use Rattle.rounding.specs.Size.{Admitted}
 use Rattle.rounding.specs.Taylor.{Taylor}
 use Rattle.scans.specs.Scan.{Scan, grade, leftList, rightList, gap, at}
 use Rattle.scans.specs.Standing.{Standing}
 use Rattle.scans.proofs.Standing.{sized-right, sized-left}
-use Rattle.scans.specs.Pieces.{pieceOf, mark, InReel, firstPast, pieceAt, placeIn, valuePlace, trendPlace, Has, Lies}
+use Rattle.scans.specs.Pieces.{pieceOf, mark, InReel, firstPast, pieceAt, Place, placeIn, rightEnd, isLast, isInner, isLone}
+use Rattle.scans.specs.Pieces.{valuePlace, trendPlace, Lies, isLastOrLone}
 
 -- ---- the pieces
 
@@ -46,74 +47,154 @@ module _ (scans : List Scan) (st : Standing scans) where
 
   -- ---- positions rise
 
-  mark-next : (k : ℕ) → suc k < length scans → mark scans k < mark scans (suc k)
-  mark-next k h = omega (arith, st .gapAtLeast k h)
+  -- the right end of a piece
+  right-mark : (k : ℕ) → suc k < length scans → mark scans k + D (pieceOf scans k) ≡ mark scans (suc k)
+  right-mark k h = omega (arith, st .gapAtLeast k h)
+
+  rises-over : (k l : ℕ) → k < l → l < length scans → mark scans k < mark scans l
+  rises-over k zero a h = absurd (omega arith)
+  rises-over k (suc l) a h = up (decLt k l) (λ b. rises-over k l b (omega arith))
+    where
+      up : Dec (k < l) → (k < l → mark scans k < mark scans l) → mark scans k < mark scans (suc l)
+      up (yes b) old = omega (arith, old b, st .gapAtLeast l h)
+      up (no b) old = let e : k ≡ l = omega arith in rw e (omega (arith, st .gapAtLeast l h))
 
   pub rises : (k l : ℕ) → k ≤ l → l < length scans → mark scans k ≤ mark scans l
-  rises k zero a h = let e : k ≡ 0 = omega arith in rw e (omega arith)
-  rises k (suc l) a h = up (decLt k (suc l)) (λ b. rises k l b (omega arith))
+  rises k l a h = go (decLt k l)
     where
-      up : Dec (k < suc l) → (k ≤ l → mark scans k ≤ mark scans l) → mark scans k ≤ mark scans (suc l)
-      up (yes b) old = omega (arith, old (omega arith), mark-next l h)
-      up (no b) old = let e : k ≡ suc l = omega arith in rw e (omega arith)
+      go : Dec (k < l) → mark scans k ≤ mark scans l
+      go (yes b) = omega (arith, rises-over k l b h)
+      go (no b) = let e : k ≡ l = omega arith in rw e (omega arith)
 
-  -- ---- exactly one piece has x
+  -- ---- a query position lies at one place at most, whichever knots belong to the piece on their left
 
-  none-before : (x k l : ℕ) → k < l → Has scans x k → Has scans x l → ⊥
-  none-before x k l h a b = go (a .right)
+  module _ (toLeft : ℕ → Bool) (x : ℕ) (p q : Place) (a : Lies scans toLeft x p) (b : Lies scans toLeft x q) where
+    -- the one place would be the right end of a piece and the other the left end of the next
+    not-before : p .k < q .k → ⊥
+    not-before h = go (decLt (suc (p .k)) (q .k))
+      where
+        go : Dec (suc (p .k) < q .k) → ⊥
+        go (yes later) = omega (arith, rises-over (suc (p .k)) (q .k) later (omega (arith, b .piece)), right-mark (p .k) (a .piece))
+        go (no next) =
+            let e : suc (p .k) ≡ q .k = omega arith in
+            let met : mark scans (p .k) + D (pieceOf scans (p .k)) ≡ mark scans (q .k) = right-mark (p .k) (a .piece) ∙ ap (mark scans) e in
+            true≢false (sym (a .end (omega arith)) ∙ ap toLeft e ∙ b .start (omega arith))
+
+  pub lies-one : (toLeft : ℕ → Bool) (x : ℕ) (p q : Place) → Lies scans toLeft x p → Lies scans toLeft x q → p ≡ q
+  lies-one toLeft x p q a b = go (decLt (p .k) (q .k)) (decLt (q .k) (p .k))
     where
-      go : (x < mark scans (suc k)) ⊎ ((x ≡ mark scans (suc k)) × (suc (suc k) ≡ length scans)) → ⊥
-      go (inl e) = omega (arith, rises (suc k) l h (omega (arith, b .piece)), b .left)
-      go (inr e) = omega (arith, b .piece, e .1)
+      go : Dec (p .k < q .k) → Dec (q .k < p .k) → p ≡ q
+      go (yes h) d = absurd (not-before toLeft x p q a b h)
+      go (no h) (yes g) = absurd (not-before toLeft x q p b a g)
+      go (no h) (no g) =
+          let e : p .k ≡ q .k = omega arith in
+          let same : mark scans (p .k) ≡ mark scans (q .k) = ap (mark scans) e in
+          ap₂ (λ (k r : ℕ). record { k = k; r = r }) e (omega arith)
 
-  pub has-one : (x k l : ℕ) → Has scans x k → Has scans x l → k ≡ l
-  has-one x k l a b = go (decLt k l) (decLt l k)
-    where
-      go : Dec (k < l) → Dec (l < k) → k ≡ l
-      go (yes h) d = absurd (none-before x k l h a b)
-      go (no h) (yes g) = absurd (none-before x l k g b a)
-      go (no h) (no g) = omega arith
+  -- ---- of a value it is the place in the piece that document 01 assigns
 
-  has-here : (x k c : ℕ) → suc k < length scans → mark scans k ≤ x → (mark scans (suc k) ≤ x → Has scans x c) →
-      (b : Bool) → ltb x (mark scans (suc k)) ≡ b → Has scans x (cond b k c)
-  has-here x k c h f later true q = record { piece = h; left = f; right = inl (ltb-true x (mark scans (suc k)) q) }
-  has-here x k c h f later false q = later (ltb-false x (mark scans (suc k)) q)
+  pub lies-in : (x k : ℕ) → suc k < length scans → mark scans k ≤ x → x ≤ mark scans (suc k) →
+      (mark scans (suc k) ≤ x → suc (suc k) ≡ length scans) → Lies scans (isLast scans) x (placeIn scans x k)
+  lies-in x k h f t last =
+      let met = right-mark k h in record {
+        piece = h;
+        distance = omega arith;
+        within = omega arith;
+        start = λ e. ne-eqb (suc k) (length scans) (λ q. omega arith);
+        end = λ e. eq-eqb (suc (suc k)) (length scans) (last (omega arith));
+      }
 
-  pub has-last : (x k : ℕ) → suc (suc k) ≡ length scans → x ≤ mark scans (suc k) →
-      (x < mark scans (suc k)) ⊎ ((x ≡ mark scans (suc k)) × (suc (suc k) ≡ length scans))
-  has-last x k e l = go (decLt x (mark scans (suc k)))
-    where
-      go : Dec (x < mark scans (suc k)) → (x < mark scans (suc k)) ⊎ ((x ≡ mark scans (suc k)) × (suc (suc k) ≡ length scans))
-      go (yes h) = inl h
-      go (no h) = inr (omega arith, e)
+  lies-here : (x k c : ℕ) → suc k < length scans → mark scans k ≤ x →
+      (mark scans (suc k) ≤ x → Lies scans (isLast scans) x (placeIn scans x c)) →
+      (b : Bool) → ltb x (mark scans (suc k)) ≡ b → Lies scans (isLast scans) x (placeIn scans x (cond b k c))
+  lies-here x k c h f later true q =
+      let before : x < mark scans (suc k) = ltb-true x (mark scans (suc k)) q in
+      lies-in x k h f (omega arith) (λ g. absurd (omega arith))
+  lies-here x k c h f later false q = later (ltb-false x (mark scans (suc k)) q)
 
-  has-from : (x k c : ℕ) → k + (c + 2) ≡ length scans → mark scans k ≤ x → x ≤ mark scans (length scans - 1) →
-      Has scans x (firstPast scans x k c)
+  lies-from : (x k c : ℕ) → k + (c + 2) ≡ length scans → mark scans k ≤ x → x ≤ mark scans (length scans - 1) →
+      Lies scans (isLast scans) x (placeIn scans x (firstPast scans x k c))
   unfolding firstPast
-  has-from x k zero e f l =
+  lies-from x k zero e f l =
       let end : suc k ≡ length scans - 1 = omega arith in
-      record { piece = omega arith; left = f; right = has-last x k (omega arith) (rw end l) }
-  has-from x k (suc c) e f l =
-      has-here x k (firstPast scans x (suc k) c) (omega arith) f (λ g. has-from x (suc k) c (omega arith) g l) (ltb x (mark scans (suc k))) refl
+      lies-in x k (omega arith) f (rw end l) (λ g. omega arith)
+  lies-from x k (suc c) e f l =
+      lies-here x k (firstPast scans x (suc k) c) (omega arith) f (λ g. lies-from x (suc k) c (omega arith) g l) (ltb x (mark scans (suc k))) refl
 
-  -- the piece that document 01 assigns
-  pub has-assigned : (x : ℕ) → InReel scans x → Has scans x (pieceAt scans x)
-  has-assigned x i = has-from x 0 (length scans - 2) (omega (arith, i .two)) (i .first) (i .last)
+  pub value-lies : (x : ℕ) → InReel scans x → Lies scans (isLast scans) x (valuePlace scans x)
+  value-lies x i = lies-from x 0 (length scans - 2) (omega (arith, i .two)) (i .first) (i .last)
 
-  -- its length in 1/256 step is at least r
-  pub within-piece : (x k : ℕ) → Has scans x k → x - mark scans k ≤ 256 * pieceOf scans k .h
-  within-piece x k a = go (a .right)
+  -- ---- of a trend it is another one at a lone reading
+
+  trend-from : (x k : ℕ) → Lies scans (isLast scans) x (placeIn scans x k) → (b : Bool) → (eqb x (mark scans k) && isLone scans k) ≡ b →
+      Lies scans (isLastOrLone scans) x (cond b (rightEnd scans (k - 1)) (placeIn scans x k))
+  trend-from x k a true e =
+      let on : x ≡ mark scans k = eqb-true x (mark scans k) (both-first (eqb x (mark scans k)) (isLone scans k) e) in
+      let lone : isLone scans k ≡ true = both-second (eqb x (mark scans k)) (isLone scans k) e in
+      let first : 0 < k = ltb-true 0 k (both-first (ltb 0 k) _ (both-first (isInner scans k) _ lone)) in
+      let next : suc (k - 1) ≡ k = omega arith in
+      let h : suc (k - 1) < length scans = omega (arith, a .piece) in record {
+        piece = h;
+        distance = right-mark (k - 1) h ∙ ap (mark scans) next ∙ sym on;
+        within = omega arith;
+        start = λ z. absurd (omega (arith, st .gapAtLeast (k - 1) h));
+        end = λ z. rw (next, lone) (or-true (isLast scans k));
+      }
+  trend-from x k a false e = record {
+    piece = a .piece;
+    distance = a .distance;
+    within = a .within;
+    start = λ z. rw (a .start z) (rw (eq-eqb x (mark scans k) (omega (arith, a .distance))) at e);
+    end = λ z. rw (a .end z) refl;
+  }
+
+  pub trend-lies : (x : ℕ) → InReel scans x → Lies scans (isLastOrLone scans) x (trendPlace scans x)
+  trend-lies x i = trend-from x (pieceAt scans x) (value-lies x i) (eqb x (mark scans (pieceAt scans x)) && isLone scans (pieceAt scans x)) refl
+
+  -- ---- at a knot
+
+  pub knot-in-reel : (k : ℕ) → suc k < length scans → InReel scans (mark scans k)
+  knot-in-reel k h = record {
+    two = omega arith;
+    first = rises 0 k (omega arith) (omega arith);
+    last = rises k (length scans - 1) (omega arith) (omega arith);
+  }
+
+  -- document 01, "An inner knot belongs to the piece on its right": and so does the first one
+  pub piece-at-knot : (k : ℕ) → suc k < length scans → pieceAt scans (mark scans k) ≡ k
+  piece-at-knot k h =
+      let x = mark scans k in
+      let next : x < mark scans (suc k) = rises-over k (suc k) (omega arith) h in
+      ap (λ p. p .k) (lies-one (isLast scans) x (valuePlace scans x) (placeIn scans x k) (value-lies x (knot-in-reel k h))
+      (lies-in x k h (omega arith) (omega arith) (λ g. absurd (omega arith))))
+
+-- ---- the place of a trend, by what is known of the knot that starts the piece that document 01 assigns
+
+module _ (scans : List Scan) (x k : ℕ) (assigned : k ≡ pieceAt scans x) where
+  pub trend-kept : (x ≡ mark scans k → 0 < k → suc k < length scans → grade (at scans k) ≡ 0 → ⊥) → trendPlace scans x ≡ placeIn scans x k
+  trend-kept other = rw (← assigned, not-lone) refl
     where
-      go : (x < mark scans (suc k)) ⊎ ((x ≡ mark scans (suc k)) × (suc (suc k) ≡ length scans)) → x - mark scans k ≤ 256 * pieceOf scans k .h
-      go (inl e) = omega (arith, mark-next k (a .piece), e)
-      go (inr e) = omega (arith, mark-next k (a .piece), e .0)
+      not-lone : (eqb x (mark scans k) && isLone scans k) ≡ false
+      not-lone = not-yes (eqb x (mark scans k) && isLone scans k) (λ e.
+          let lone : isLone scans k ≡ true = both-second (eqb x (mark scans k)) _ e in
+          let inner : isInner scans k ≡ true = both-first (isInner scans k) _ lone in
+          other (eqb-true x (mark scans k) (both-first (eqb x (mark scans k)) _ e)) (ltb-true 0 k (both-first (ltb 0 k) _ inner))
+          (ltb-true (suc k) (length scans) (both-second (ltb 0 k) _ inner)) (eqb-true (grade (at scans k)) 0 (both-second (isInner scans k) _ lone)))
 
-  -- so x lies where document 01 says: of a value and of a trend
-  lies-in : (x k : ℕ) → Has scans x k → Lies scans x (placeIn scans x k)
-  lies-in x k a = record { piece = a .piece; distance = omega (arith, a .left); within = within-piece x k a }
+  pub trend-moved : x ≡ mark scans k → 0 < k → suc k < length scans → grade (at scans k) ≡ 0 → trendPlace scans x ≡ rightEnd scans (k - 1)
+  trend-moved on first last lone = rw (← assigned, eq-eqb x (mark scans k) on, yes-lone) refl
+    where
+      yes-lone : isLone scans k ≡ true
+      yes-lone = both (both (lt-ltb 0 k first) (lt-ltb (suc k) (length scans) last)) (eq-eqb (grade (at scans k)) 0 lone)
 
-  pub value-lies : (x : ℕ) → InReel scans x → Lies scans x (valuePlace scans x)
-  value-lies x i = lies-in x (pieceAt scans x) (has-assigned x i)
+-- ---- request 3/14 in its own words
 
-  pub trend-lies : (x : ℕ) → InReel scans x → Lies scans x (trendPlace scans x)
-  trend-lies x i = lies-in x (pieceAt scans x) (has-assigned x i)
+-- "Other knots keep the piece they had", and so does every position between knots
+pub trend-elsewhere : (scans : List Scan) (x : ℕ) →
+    ((k : ℕ) → x ≡ mark scans k → 0 < k → suc k < length scans → grade (at scans k) ≡ 0 → ⊥) → trendPlace scans x ≡ valuePlace scans x
+trend-elsewhere scans x other = trend-kept scans x (pieceAt scans x) refl (other (pieceAt scans x))
+
+-- "where an inner knot has grade 0", the trend is "taken from the piece on the left, at its right end"
+pub trend-at-lone : (scans : List Scan) → Standing scans → (k : ℕ) → 0 < k → suc k < length scans → grade (at scans k) ≡ 0 →
+    trendPlace scans (mark scans k) ≡ rightEnd scans (k - 1)
+trend-at-lone scans st k first last lone = trend-moved scans (mark scans k) k (sym (piece-at-knot scans st k last)) refl first last lone

@@ -1,13 +1,13 @@
--- Document 01, "Blend over one piece": the pieces of a list of scans, and the one that a query position is in.
-use mathlib.Core.Bool.{cond}
+-- Document 01, "Blend over one piece": the pieces of a list of scans, the one that a query position is in, and the one
+-- that its trend is taken from (request 3/14).
+use mathlib.Core.Bool.{Bool, true, false, _&&_, _||_, cond}
 use mathlib.Core.List.{List}
-use mathlib.Core.Logic.{_⊎_}
 use mathlib.Core.Path.{_≡_}
 use Prim.Native.Nat.{ℕ, zero, suc, _+_, _*_, _-_, _≤_, _<_}
-use lib.Dec.{ltb}
+use lib.Dec.{eqb, ltb}
 use lib.ListN.{length}
 use Rattle.rounding.specs.Piece.{Piece, piece, D, positionUnit}
-use Rattle.scans.specs.Scan.{Scan, at, gap, leftList, rightList}
+use Rattle.scans.specs.Scan.{Scan, grade, at, gap, leftList, rightList}
 
 -- the piece between two scans
 abbrev pub between : Scan → Scan → Piece
@@ -46,22 +46,40 @@ pub record Place : Type 0 where
 abbrev pub placeIn : List Scan → ℕ → ℕ → Place
 placeIn scans x k = record { k = k; r = x - mark scans k }
 
--- the piece of a value and the piece of a trend, each with r; the two names wait for request 3/14, which moves that of
--- a trend
+-- piece k at its right end
+abbrev pub rightEnd : List Scan → ℕ → Place
+rightEnd scans k = record { k = k; r = D (pieceOf scans k) }
+
+-- the last knot, and an inner one, which is neither the first nor the last
+abbrev pub isLast : List Scan → ℕ → Bool
+isLast scans k = eqb (suc k) (length scans)
+
+abbrev pub isInner : List Scan → ℕ → Bool
+isInner scans k = ltb 0 k && ltb (suc k) (length scans)
+
+-- request 3/14, a lone reading: "where an inner knot has grade 0"
+abbrev pub isLone : List Scan → ℕ → Bool
+isLone scans k = isInner scans k && eqb (grade (at scans k)) 0
+
+-- the piece of a value, and r: the piece that document 01 assigns
 abbrev pub valuePlace : List Scan → ℕ → Place
 valuePlace scans x = placeIn scans x (pieceAt scans x)
 
+-- the piece of a trend, and r. Request 3/14: at a lone reading the trend "is now taken from the piece on the left, at
+-- its right end"; everywhere else from piece k, which document 01 assigns, and which starts at knot k
 abbrev pub trendPlace : List Scan → ℕ → Place
-trendPlace scans x = placeIn scans x (pieceAt scans x)
+trendPlace scans x = let k = pieceAt scans x in
+    cond (eqb x (mark scans k) && isLone scans k) (rightEnd scans (k - 1)) (placeIn scans x k)
 
--- piece k has x: its left end is not after x and its right end is; or it is the last piece and x its right end
-pub record Has (scans : List Scan) (x k : ℕ) : Type 0 where
-  pub piece : suc k < length scans
-  pub left : mark scans k ≤ x
-  pub right : (x < mark scans (suc k)) ⊎ ((x ≡ mark scans (suc k)) × (suc (suc k) ≡ length scans))
-
--- query position x lies at this place: r after the left knot of piece k, and at most D
-pub record Lies (scans : List Scan) (x : ℕ) (place : Place) : Type 0 where
+-- query position x lies at this place: r after the left knot of piece k, and r is at most D. A knot that `toLeft` names
+-- belongs to the piece on its left, and every other knot to the piece on its right
+pub record Lies (scans : List Scan) (toLeft : ℕ → Bool) (x : ℕ) (place : Place) : Type 0 where
   pub piece : suc (place .k) < length scans
   pub distance : mark scans (place .k) + place .r ≡ x
   pub within : place .r ≤ D (pieceOf scans (place .k))
+  pub start : place .r ≡ 0 → toLeft (place .k) ≡ false
+  pub end : place .r ≡ D (pieceOf scans (place .k)) → toLeft (suc (place .k)) ≡ true
+
+-- the knots that belong to the piece on their left: for a value the last one, for a trend each lone reading too
+abbrev pub isLastOrLone : List Scan → ℕ → Bool
+isLastOrLone scans k = isLast scans k || isLone scans k

@@ -9,15 +9,14 @@ use Rattle.rounding.specs.Water.{total}
 use Rattle.scans.specs.Scan.{Scan}
 use Rattle.scans.specs.Pieces.{pieceOf, valuePlace, trendPlace}
 
--- document 01, "Blend over one piece": the piece of a value at query position x, and the value; the piece has a name
--- beside that of a trend for request 3/14, which moves the latter
+-- document 01, "Blend over one piece": the piece of a value at query position x, and the value
 abbrev pub valuePiece : List Scan → ℕ → Piece
 valuePiece scans x = pieceOf scans (valuePlace scans x .k)
 
 unfoldable pub valueAt : List Scan → ℕ → ℤ
 valueAt scans x = value (valuePiece scans x) (valuePlace scans x .r)
 
--- document 01, "Trend": the piece of a trend at query position x, and the trend
+-- document 01, "Trend", with request 3/14: the piece of a trend at query position x, and the trend
 abbrev pub trendPiece : List Scan → ℕ → Piece
 trendPiece scans x = pieceOf scans (trendPlace scans x .k)
 

@@ -30,7 +30,7 @@ pub record Right (call : Call) (standing : List Scan) (outcome : Outcome) (hande
   pub values : (x : ℕ) (v : ℤ) → call ≡ value x → replyOf (outcome .answer) ≡ number v →
       ValueDistance (valuePiece standing x) (valuePlace standing x .r) v
   -- for each trend z, 65,536 × the exact derivative over the piece − h × z is from −(m+n) to 2(m+n)+h−1, with those
-  -- of the piece of a trend
+  -- of the piece of a trend, which at a lone reading is the one on its left (request 3/14)
   pub trends : (x : ℕ) (z : ℤ) → call ≡ trend x → replyOf (outcome .answer) ≡ number z →
       TrendDistance (trendPiece standing x) (trendPlace standing x .r) z
   -- each total is the exact integral of the blends over its pieces

@@ -1,13 +1,13 @@
 """Parts of the replay script: value, trend and total, refused and answered; around knots, all pairs of grades with all
-gaps, all ranges."""
+gaps, all ranges, trends at lone readings."""
 import random
 
 from document.coefficients import FLAT, extreme, ordinary
 from document.hold import hold
-from document.knot import GAP_MAX, KNOTS_MAX, POSITION_MAX
+from document.knot import GAP_MAX, GRADE_MAX, KNOTS_MAX, POSITION_MAX
 from document.known_results import KNOWN_RESULTS, WORKED
-from document.piece import UNIT_OF_POSITION
-from stored.reels import MIXED, NO_PLACE, cycle_of_grades, laid_out, reel_of_all_pairs
+from document.piece import UNIT_OF_POSITION, UNIT_OF_VALUE, trend, value
+from stored.reels import MIXED, NO_PLACE, cycle_of_grades, laid_out, reel_of_all_pairs, reels_of_lone_readings
 from stored.replay_lines import line_for, line_of
 
 
@@ -121,3 +121,59 @@ def all_ranges(script):
 def all_ranges_to_the_limits(script):
     """The total of every range of a full reel of mixed grades, with coefficients up to the limits of the size rule"""
     add_up_all_ranges(script, random.Random(6), (ordinary, ordinary, extreme))
+
+
+def trends_by_hand(script):
+    """Straight pieces, with slopes of 2, 1 and −3 counts per step: an inner knot of grade 0 has the slope before it, one
+    of another grade its own C_1."""
+
+    def expect(*slopes):
+        for x, slope in slopes:
+            script.call(f"trend {x}", f"trend {UNIT_OF_VALUE * slope}")
+
+    script.hold_knots((0, (0,)), (2, (4,)))
+    expect((0, 2), (1, 2), (511, 2), (512, 2))
+    script.expect(0, "append", 3, (5,))
+    expect((0, 2), (511, 2), (512, 2), (513, 1), (768, 1))
+    script.expect(0, "append", 5, (-1,))
+    expect((0, 2), (512, 2), (513, 1), (767, 1), (768, 1), (769, -3), (1_280, -3))
+    for coefficients, slope in (((4, 9), 9), ((4, -7, 0), -7), ((4,), 2)):
+        script.expect(0, "correct", 1, coefficients)
+        expect((512, slope))
+        script.call("value 512", f"value {UNIT_OF_VALUE * 4}")
+    script.hold_knots((2, (4,)), (3, (5,)), (5, (-1,)))
+    expect((512, 1), (768, 1), (1_280, -3))
+
+
+def shown_between(reel):
+    """Of each inner knot of grade 0 the grades beside it, and whether the left gap is the lesser. Its trend shows which
+    piece is taken; its value is the same from either side."""
+    for k, (_, coefficients) in [*enumerate(reel.knots)][1:-1]:
+        if len(coefficients) == 1:
+            left, right = reel.piece(k - 1), reel.piece(k)
+            hold(trend(left, left.D) != trend(right, 0), "the trend is the same from either side of knot", k, reel.knots)
+            hold(value(left, left.D) == value(right, 0), "the value is not the same from either side of knot", k, reel.knots)
+            yield left.m, right.n, left.h < right.h
+
+
+def shown_at_ends(reel):
+    """Of a first and a last knot of grade 0 the grade beside it, where the trend shows at which end of the piece it is taken."""
+    first, last = reel.piece(0), reel.piece(len(reel.knots) - 2)
+    for end, piece, grade, beside in (("first", first, first.m, first.n), ("last", last, last.n, last.m)):
+        if grade == 0 and trend(piece, 0) != trend(piece, piece.D):
+            yield end, beside
+
+
+def trends_at_lone_readings(script):
+    """Trend at an inner knot of grade 0, from the piece on its left; just before and after it, and at the first and the last knot"""
+    trends_by_hand(script)
+    between, at_ends = set(), set()
+    for knots in reels_of_lone_readings():
+        script.hold_knots(*knots)
+        at_knots = [UNIT_OF_POSITION * position for position, _ in knots]
+        for x in at_knots:
+            script.ask(*(near for near in (x - 1, x, x + 1) if at_knots[0] <= near <= at_knots[-1]))
+        between.update(shown_between(script.reel))
+        at_ends.update(shown_at_ends(script.reel))
+    hold(len(between) == 128, "pairs of grades beside lone readings, with the lesser gap on either side:", len(between))
+    hold(len(at_ends) == 2 * GRADE_MAX, "grades beside first and last knots of grade 0:", at_ends)

@@ -1,18 +1,21 @@
--- The piece k that query position x is in, between two knots of an array: what its value and trend ask of it, and whose they are.
+-- The place that query position x lies at, in the piece between two knots of an array: what value and trend ask of them, and whose they are.
+use mathlib.Core.Bool.{Bool}
 use mathlib.Core.List.{List}
-use mathlib.Core.Path.{_≡_, sym, _∙_, ap, ap₂}
-use Prim.Native.Nat.{ℕ, _+_, _*_, _-_, _≤_, _<_}
+use mathlib.Core.Path.{_≡_, _∙_, ap, ap₂}
+use Prim.Native.Nat.{ℕ, suc, _+_, _*_, _-_, _≤_, _<_}
 use native.Mathlib.Omega.{arith}
 use lib.IntN.{ℤ}
+use lib.ListN.{length}
 use Rattle.rounding.specs.Limits.{knotsMax}
 use Rattle.rounding.specs.Piece.{Piece}
 use Rattle.rounding.specs.Size.{Admitted}
+use Rattle.scans.specs.Scan.{Scan}
 use Rattle.knot.specs.Machine.{Graded, scan, knotIn, scansIn}
 use Rattle.knot.specs.declared.held.Knot.{Knot}
-use Rattle.scans.specs.Pieces.{between, pieceOf, mark, pieceAt, placeIn, Has}
-use Rattle.chain.specs.Machine.{Reached}
-use Rattle.chain.proofs.Knots.{count-is, scan-at, between-is, between-admitted, has-reached}
-use Rattle.scans.proofs.Pieces.{within-piece}
+use Rattle.scans.specs.Pieces.{between, pieceOf, mark, pieceAt, Place, Lies, isLast, isLastOrLone, valuePlace, trendPlace}
+use Rattle.scans.proofs.Pieces.{value-lies, trend-lies}
+use Rattle.chain.specs.Machine.{Chained, Reached, PieceOfTrend}
+use Rattle.chain.proofs.Knots.{count-is, scan-at, mark-at, between-is, between-admitted}
 
 -- the piece between knots k and k+1, and the distance of x from the first of them
 abbrev pub pieceIn : List Knot → ℕ → Piece
@@ -21,37 +24,61 @@ pieceIn knots k = between (scan (knotIn knots k)) (scan (knotIn knots (k + 1)))
 abbrev pub distance : List Knot → ℕ → ℕ → ℕ
 distance knots x k = x - 256 * knotIn knots k .position
 
-pub record Located (knots : List Knot) (n x k : ℕ) : Type 0 where
+pub record Located (knots : List Knot) (n x : ℕ) (place : Place) (k : ℕ) : Type 0 where
   pub inArray : k + 1 < knotsMax
   pub starts : 256 * knotIn knots k .position ≤ x
   pub asked : (Graded (knotIn knots k)) × (Graded (knotIn knots (k + 1))) × (Admitted (pieceIn knots k)) × (distance knots x k ≤ 256 * pieceIn knots k .h)
   -- f is the value or the trend
-  pub given : (f : Piece → ℕ → ℤ) → let place = placeIn (scansIn n knots) x (pieceAt (scansIn n knots) x) in
-      f (pieceIn knots k) (distance knots x k) ≡ f (pieceOf (scansIn n knots) (place .k)) (place .r)
+  pub given : (f : Piece → ℕ → ℤ) → f (pieceIn knots k) (distance knots x k) ≡ f (pieceOf (scansIn n knots) (place .k)) (place .r)
+
+module _ (knots : List Knot) (n x : ℕ) (chained : Chained knots n) (toLeft : ℕ → Bool) (place : Place)
+    (lies : Lies (scansIn n knots) toLeft x place) (k : ℕ) (is : k ≡ place .k) where
+  inside : k + 1 < n
+  inside = omega (arith, lies .piece, count-is knots n chained)
+
+  starts-at : mark (scansIn n knots) (place .k) ≡ 256 * knotIn knots k .position
+  starts-at = rw (← is) (mark-at knots n chained k (omega (arith, inside)))
+
+  piece-is : pieceIn knots k ≡ pieceOf (scansIn n knots) (place .k)
+  piece-is = between-is knots n chained k inside ∙ ap (pieceOf (scansIn n knots)) is
+
+  distance-is : distance knots x k ≡ place .r
+  distance-is = omega (arith, lies .distance, starts-at)
+
+  pub located : Located knots n x place k
+  located = record {
+    inArray = omega (arith, inside, chained .filled .count);
+    starts = omega (arith, lies .distance, starts-at);
+    asked = (
+      chained .filled .graded k (omega (arith, inside)),
+      chained .filled .graded (k + 1) inside,
+      between-admitted knots n chained k inside,
+      omega (arith, lies .within, distance-is, ap (λ P. P .h) piece-is),
+    );
+    given = λ f. ap₂ f piece-is distance-is;
+  }
+
+-- ---- the place of a value, in the piece that document 01 assigns, and that of a trend
+
+abbrev pub ValueLocated : List Knot → ℕ → ℕ → ℕ → Type 0
+ValueLocated knots n x = Located knots n x (valuePlace (scansIn n knots) x)
+
+abbrev pub TrendLocated : List Knot → ℕ → ℕ → ℕ → Type 0
+TrendLocated knots n x = Located knots n x (trendPlace (scansIn n knots) x)
 
 module _ (knots : List Knot) (n x : ℕ) (reached : Reached knots n x) (k : ℕ) (is : k ≡ pieceAt (scansIn n knots) x) where
-  has : Has (scansIn n knots) x k
-  has = rw is (has-reached knots n x reached)
+  abbrev scans : List Scan
+  scans = scansIn n knots
 
-  inside : k + 1 < n
-  inside = omega (arith, has .piece, count-is knots n (reached .chained))
+  assigned : Lies scans (isLast scans) x (valuePlace scans x)
+  assigned = value-lies scans (reached .chained .standing) x (reached .within)
 
-  mark-is : mark (scansIn n knots) k ≡ 256 * knotIn knots k .position
-  mark-is = ap (λ s. 256 * s .position) (scan-at knots n (reached .chained) k (omega (arith, inside)))
+  pub value-located : ValueLocated knots n x k
+  value-located = located knots n x (reached .chained) (isLast scans) (valuePlace scans x) assigned k is
 
-  piece-is : pieceIn knots k ≡ pieceOf (scansIn n knots) k
-  piece-is = between-is knots n (reached .chained) k inside
-
-  pub located : Located knots n x k
-  located =
-      let filled = reached .chained .filled in record {
-        inArray = omega (arith, inside, filled .count);
-        starts = rw (← mark-is) (has .left);
-        asked = (
-          filled .graded k (omega (arith, inside)),
-          filled .graded (k + 1) inside,
-          between-admitted knots n (reached .chained) k inside,
-          omega (arith, within-piece (scansIn n knots) (reached .chained .standing) x k has, mark-is, ap (λ P. P .h) piece-is),
-        );
-        given = λ f. ap₂ f piece-is (ap (λ m. x - m) (sym mark-is)) ∙ ap (λ i. f (pieceOf (scansIn n knots) i) (placeIn (scansIn n knots) x i .r)) is;
-      }
+  pub trend-located : (j : ℕ) → PieceOfTrend (knotIn knots k) k x j → TrendLocated knots n x j
+  trend-located j found =
+      let more : suc k < length scans = omega (arith, assigned .piece) in
+      let starts = scan-at knots n (reached .chained) k (omega (arith, count-is knots n (reached .chained))) in
+      located knots n x (reached .chained) (isLastOrLone scans) (trendPlace scans x)
+      (trend-lies scans (reached .chained .standing) x (reached .within)) j (found scans more is starts)

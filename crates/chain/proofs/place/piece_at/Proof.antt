@@ -1,7 +1,6 @@
--- `chain::place::piece_at` meets its contract: bisection closes in on the one piece that has x.
+-- `chain::place::piece_at` meets its contract: bisection closes in on the one piece that x lies in.
 use borrow.Author.Needs.{needs}
 use mathlib.Core.List.{List}
-use mathlib.Core.Logic.{_⊎_, inl, inr, ⊎-elim}
 use mathlib.Core.Path.{_≡_, ap}
 use Prim.Native.Nat.{ℕ, suc, _+_, _-_, _*_, _/_, _≤_, _<_}
 use native.Mathlib.Omega.{arith}
@@ -9,9 +8,9 @@ use lib.ListN.{length}
 use Rattle.scans.specs.Scan.{Scan}
 use Rattle.knot.specs.Machine.{knotIn, scansIn}
 use Rattle.scans.specs.Standing.{Standing}
-use Rattle.scans.specs.Pieces.{mark, pieceAt, Has}
-use Rattle.chain.proofs.Knots.{count-is, scan-at, has-reached}
-use Rattle.scans.proofs.Pieces.{has-last, has-one}
+use Rattle.scans.specs.Pieces.{mark, placeIn, isLast, valuePlace, Lies}
+use Rattle.chain.proofs.Knots.{count-is, mark-at}
+use Rattle.scans.proofs.Pieces.{lies-in, lies-one, value-lies}
 use Rattle.chain.proofs.place.piece_at.Statement.{statement}
 use Rattle.chain.proofs.place.piece_at.Tie as tie
 
@@ -20,7 +19,8 @@ record Narrowed (scans : List Scan) (x low high : ℕ) : Type 0 where
   order : low < high
   end : high < length scans
   left : mark scans low ≤ x
-  right : (x < mark scans high) ⊎ ((x ≤ mark scans high) × (suc high ≡ length scans))
+  right : x ≤ mark scans high
+  last : mark scans high ≤ x → suc high ≡ length scans
 
 abbrev Inv-loop : tie.InvT-loop
 Inv-loop count x knots low₀ high₀ low high = Narrowed (scansIn count knots) x low high
@@ -40,7 +40,8 @@ loop-holds c = record {
   order = omega (arith, c .pre .within .two, counted c);
   end = omega (arith, c .pre .within .two, counted c);
   left = c .pre .within .first;
-  right = inr (rw (counted c) at (c .pre .within .last), omega (arith, c .pre .within .two, counted c));
+  right = rw (counted c) at (c .pre .within .last);
+  last = λ g. omega (arith, c .pre .within .two, counted c);
 }
 
 -- no place is past the array
@@ -74,8 +75,8 @@ middle : (c : tie.After-struct-known Inv-loop μ-loop) → let l = c .before .be
     (l .before .args .t1) (l .loop .low + (l .loop .high - l .loop .low) / 2) .position
 middle c =
     let l = c .before .before .before in
-    ap (λ s. 256 * s .position) (scan-at (l .before .args .t1) (l .before .args .count) (l .before .pre .chained) _
-    (omega (arith, c .before .before .loop-test .taken, l .loop .inv .end, counted (l .before))))
+    mark-at (l .before .args .t1) (l .before .args .count) (l .before .pre .chained) _
+    (omega (arith, c .before .before .loop-test .taken, l .loop .inv .end, counted (l .before)))
 
 loop-less : tie.Need-loop-less Inv-loop μ-loop
 loop-less c = omega arith
@@ -87,6 +88,7 @@ loop-again c =
       end = l .loop .inv .end;
       left = rw (middle (c .before)) (c .if1 .taken);
       right = l .loop .inv .right;
+      last = l .loop .inv .last;
     }
 
 loop-less-2 : tie.Need-loop-less-2 Inv-loop μ-loop
@@ -98,17 +100,16 @@ loop-again-2 c =
       order = omega arith;
       end = omega (arith, l .loop .inv .end);
       left = l .loop .inv .left;
-      right = inl (rw (middle (c .before)) (c .if1 .left));
+      right = omega (arith, middle (c .before), c .if1 .left);
+      last = λ g. absurd (omega (arith, middle (c .before), c .if1 .left));
     }
 
--- one piece is left, and it has x
-found : (scans : List Scan) → Standing scans → (x low high : ℕ) → Narrowed scans x low high → high ≤ low + 1 → Has scans x low
+-- one piece is left, and x lies in it
+found : (scans : List Scan) → Standing scans → (x low high : ℕ) → Narrowed scans x low high → high ≤ low + 1 →
+    Lies scans (isLast scans) x (placeIn scans x low)
 found scans st x low high n e =
-    let next : high ≡ suc low = omega (arith, n .order) in record {
-      piece = omega (arith, n .end);
-      left = n .left;
-      right = ⊎-elim inl (λ a. has-last scans st x low (a .1) (a .0)) (rw next at (n .right));
-    }
+    let next : high ≡ suc low = omega (arith, n .order) in
+    lies-in scans st x low (omega (arith, n .end)) (n .left) (rw next at (n .right)) (rw next at (n .last))
 
 returns : tie.Need-returns Inv-loop μ-loop
 returns c =
@@ -116,9 +117,9 @@ returns c =
     let b = l .before in
     let scans = scansIn (b .args .count) (b .args .t1) in
     let st = b .pre .chained .standing in
-    has-one scans st (b .args .x) (l .loop .low) (pieceAt scans (b .args .x))
-    (found scans st (b .args .x) (l .loop .low) (l .loop .high) (l .loop .inv) (c .loop-test .left))
-    (has-reached (b .args .t1) (b .args .count) (b .args .x) (b .pre))
+    let x = b .args .x in
+    ap (λ p. p .k) (lies-one scans st (isLast scans) x (placeIn scans x (l .loop .low)) (valuePlace scans x)
+    (found scans st x (l .loop .low) (l .loop .high) (l .loop .inv) (c .loop-test .left)) (value-lies scans st x (b .pre .within)))
 
 pub piece-at-spec : {M : Type 1} → statement M
 piece-at-spec =

@@ -1,19 +1,38 @@
--- `chain::queries::trend` meets its contract: x is in the piece between knots k and k+1, and that is the model's piece.
+-- `chain::queries::trend` meets its contract: x lies between knots k and k+1, and that is the place of a trend.
 use borrow.Author.Needs.{needs}
 use mathlib.Core.Path.{_∙_}
 use native.Mathlib.Omega.{arith}
 use Rattle.integer.proofs.Within.{result-is}
 use Rattle.rounding.specs.Trend.{trend}
 use Rattle.scans.specs.Queries.{trendAt}
-use Rattle.chain.proofs.queries.Located.{Located, located}
+use Rattle.chain.proofs.queries.Located.{ValueLocated, TrendLocated, value-located, trend-located}
 use Rattle.chain.proofs.queries.trend.Statement.{statement}
 use Rattle.chain.proofs.queries.trend.Tie as tie
 
 piece-at-requires : tie.Need-piece-at-requires
 piece-at-requires c κs = search needs
 
-place : (c : tie.After-piece-at) → Located (c .before .args .t1) (c .before .args .count) (c .before .args .x) (c .piece-at .result)
-place c = located (c .before .args .t1) (c .before .args .count) (c .before .args .x) (c .before .pre) (c .piece-at .result) (c .piece-at .ensures)
+-- the piece that document 01 assigns
+assigned : (c : tie.After-piece-at) → ValueLocated (c .before .args .t1) (c .before .args .count) (c .before .args .x) (c .piece-at .result)
+assigned c = value-located (c .before .args .t1) (c .before .args .count) (c .before .args .x) (c .before .pre) (c .piece-at .result) (c .piece-at .ensures)
+
+mul-start : tie.Need-mul-start
+mul-start c = record { fits = omega (arith, assigned c .inArray) }
+
+array-copy-out-start : tie.Need-array-copy-out-start
+array-copy-out-start c = omega (arith, assigned c .inArray)
+
+piece-of-trend-requires : tie.Need-piece-of-trend-requires
+piece-of-trend-requires c κs = assigned (c .before) .asked .0
+
+-- the piece of a trend
+place : (c : tie.After-piece-of-trend) → let b = c .before .before .before in
+    TrendLocated (b .args .t1) (b .args .count) (b .args .x) (c .piece-of-trend .result)
+place c =
+    let f = c .before .before in
+    let b = f .before in
+    trend-located (b .args .t1) (b .args .count) (b .args .x) (b .pre) (f .piece-at .result) (f .piece-at .ensures) (c .piece-of-trend .result)
+    (c .piece-of-trend .ensures)
 
 mul-left : tie.Need-mul-left
 mul-left c = record { fits = omega (arith, place c .inArray) }
@@ -51,6 +70,9 @@ trend-spec =
     tie.close
     (tie.spec
     piece-at-requires
+    mul-start
+    array-copy-out-start
+    piece-of-trend-requires
     mul-left
     array-copy-out-left
     add-right

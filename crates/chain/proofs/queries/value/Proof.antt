@@ -1,19 +1,19 @@
--- `chain::queries::value` meets its contract: x is in the piece between knots k and k+1, and that is the model's piece.
+-- `chain::queries::value` meets its contract: x lies between knots k and k+1, and that is the place of a value.
 use borrow.Author.Needs.{needs}
 use mathlib.Core.Path.{_∙_}
 use native.Mathlib.Omega.{arith}
 use Rattle.integer.proofs.Within.{result-is}
 use Rattle.rounding.specs.Value.{value}
 use Rattle.scans.specs.Queries.{valueAt}
-use Rattle.chain.proofs.queries.Located.{Located, located}
+use Rattle.chain.proofs.queries.Located.{ValueLocated, value-located}
 use Rattle.chain.proofs.queries.value.Statement.{statement}
 use Rattle.chain.proofs.queries.value.Tie as tie
 
 piece-at-requires : tie.Need-piece-at-requires
 piece-at-requires c κs = search needs
 
-place : (c : tie.After-piece-at) → Located (c .before .args .t1) (c .before .args .count) (c .before .args .x) (c .piece-at .result)
-place c = located (c .before .args .t1) (c .before .args .count) (c .before .args .x) (c .before .pre) (c .piece-at .result) (c .piece-at .ensures)
+place : (c : tie.After-piece-at) → ValueLocated (c .before .args .t1) (c .before .args .count) (c .before .args .x) (c .piece-at .result)
+place c = value-located (c .before .args .t1) (c .before .args .count) (c .before .args .x) (c .before .pre) (c .piece-at .result) (c .piece-at .ensures)
 
 mul-left : tie.Need-mul-left
 mul-left c = record { fits = omega (arith, place c .inArray) }
