@@ -2,7 +2,7 @@
 ghost use mathlib.Core.Path.{_≡_};
 ghost use Rattle.knot.specs.Machine.{Graded, scansIn};
 ghost use Rattle.scans.specs.Pieces.{pieceAt};
-ghost use Rattle.chain.specs.Machine.{Reached, PieceOfTrend};
+ghost use Rattle.chain.specs.Machine.{PieceOfTrend, Reached};
 use knot::KNOTS_MAX;
 use knot::Knot;
 use rounding::POSITION_UNIT;

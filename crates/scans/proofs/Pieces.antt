@@ -59,7 +59,7 @@ module _ (scans : List Scan) (st : Standing scans) where
       up (yes b) old = omega (arith, old b, st .gapAtLeast l h)
       up (no b) old = let e : k ≡ l = omega arith in rw e (omega (arith, st .gapAtLeast l h))
 
-  pub rises : (k l : ℕ) → k ≤ l → l < length scans → mark scans k ≤ mark scans l
+  rises : (k l : ℕ) → k ≤ l → l < length scans → mark scans k ≤ mark scans l
   rises k l a h = go (decLt k l)
     where
       go : Dec (k < l) → mark scans k ≤ mark scans l

@@ -45,7 +45,7 @@ module _ (knots : List Knot) (n x : ℕ) (chained : Chained knots n) (toLeft : �
   distance-is : distance knots x k ≡ place .r
   distance-is = omega (arith, lies .distance, starts-at)
 
-  pub located : Located knots n x place k
+  located : Located knots n x place k
   located = record {
     inArray = omega (arith, inside, chained .filled .count);
     starts = omega (arith, lies .distance, starts-at);
