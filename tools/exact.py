@@ -1,5 +1,5 @@
 #!/usr/bin/env python3
-"""Document 01 in exact fractions, with requests 1/14 and 3/14 of document 02: what the engine's numbers are held against.
+"""Document 01 in exact fractions, with requests 1/14, 3/14 and 4/14 of document 02: what the engine's numbers are held against.
 
 Written from the documents, in their letters, and not from the Rattle text: the blend is formula (1)
 multiplied out, the derivative comes by differentiating it and the total by integrating it. Every case
@@ -17,8 +17,9 @@ files that `vectors` makes. The documents stand in document/, what the stored fi
   exact.py check    hold all entries of "Scans with known results", the integral weights of source document
                     001, and a sweep over all grades and gaps; then the worked block, its report and its text,
                     the stored reports; of blocks by chance, text and bytes with readings, that the operator's
-                    answers skip these, and the views; and the replay script, with the reel's round trip after
-                    every call and that of every block it accepts
+                    answers skip these, and the views; of sums of reels, over all grades and gaps, the blends,
+                    totals and values; and the replay script, with the reel's round trip after every call and
+                    that of every block it accepts
 """
 import sys
 
@@ -28,6 +29,7 @@ from collections import Counter
 from pathlib import Path
 
 from document.block import block_of, contents_of, packed
+from document.combination import hold_combinations
 from document.hold import Broken
 from document.knot import Refused
 from document.known_results import WORKED, hold_known_refusals, hold_known_results, hold_worked_report
@@ -103,6 +105,7 @@ def check():
     hold_texts()
     print(f"the worked block's report and text held; {len(stored_reports())} stored blocks reported")
     print(f"{hold_readings()} pairs of blocks that differ only in readings and end count give the same list and report")
+    print("{} sums of reels held, {} of them refused".format(*hold_combinations()))
     script = transcript()
     print(f"the worked block held; {len(script.answers)} calls of the replay script answered, {script.round_trips} round trips held")
 

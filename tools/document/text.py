@@ -29,7 +29,7 @@ def unsigned(field):
 
 
 def signed(fields):
-    """Coefficients: 32 bits each."""
+    """Coefficients, or multipliers: 32 bits each."""
     return tuple(whole(field, -(1 << 31), (1 << 31) - 1) for field in fields)
 
 

@@ -2,6 +2,7 @@
 import re
 
 from document.block import block_of
+from document.combination import combination
 from document.reel import Reel, same
 from document.text import Unreadable, signed, unsigned, whole
 from document.view import view, view_at
@@ -59,6 +60,11 @@ def line_of_shown(answer):
     return f"reading {answer[0]}" if answer else "past"
 
 
+def line_of_sum(answer):
+    """The block that is written of the knots of a sum; or its refusal."""
+    return f"combined {hex_of(block_of(answer))}" if isinstance(answer, list) else line_of(answer)
+
+
 def kind_of_answer(answer):
     return " ".join(answer.split(" ")[: 2 if answer.startswith("refused") else 1])
 
@@ -100,6 +106,9 @@ def answer_to_call(line, reel):
             return line_of_view(view(bytes_of_hex(block), unsigned(k), unsigned(n)))
         case [b"viewat", block, k, n, i]:
             return line_of_shown(view_at(bytes_of_hex(block), unsigned(k), unsigned(n), unsigned(i)))
+        case [b"combine", alpha, beta, block, other]:
+            reels = accepted_reel(bytes_of_hex(block)), accepted_reel(bytes_of_hex(other))
+            return line_of_sum(combination(*signed([alpha, beta]), *reels))
     raise Unreadable
 
 

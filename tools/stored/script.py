@@ -6,6 +6,10 @@ from stored.parts.calls import (
     places, refused_appends, refused_corrections, same_reels, sizes, the_empty_reel, the_worked_block,
 )
 from stored.parts.chance import calls_by_chance
+from stored.parts.combinations import (
+    causes_of_combinations, combinations_by_chance, forms_of_combinations, full_combinations, multipliers, sizes_at_every_knot,
+    sizes_of_sums, sums_and_differences, sums_with_readings, unlike_reels, values_of_sums, wide_sums,
+)
 from stored.parts.full_reels import a_flat_reel, full_reels, greatest_totals
 from stored.parts.lines import lines_passed_over, long_lines, the_last_line, unreadable_lines
 from stored.parts.queries import (
@@ -57,6 +61,18 @@ PARTS = [
     readings_by_chance_tried,
     full_blocks,
     trends_at_lone_readings,
+    sums_and_differences,
+    multipliers,
+    unlike_reels,
+    sizes_of_sums,
+    sizes_at_every_knot,
+    wide_sums,
+    causes_of_combinations,
+    sums_with_readings,
+    forms_of_combinations,
+    values_of_sums,
+    full_combinations,
+    combinations_by_chance,
     the_last_line,
 ]
 

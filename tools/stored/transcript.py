@@ -5,7 +5,7 @@ from document.block import block_of, knots_of
 from document.hold import hold
 from document.readings import hold_rewritten
 from document.reel import Reel, hold_standing
-from stored.replay_lines import LENT, answer_to, hex_of, line_for, line_of, line_of_shown, line_of_view
+from stored.replay_lines import LENT, answer_to, hex_of, line_for, line_of, line_of_shown, line_of_sum, line_of_view
 
 
 @cache
@@ -14,7 +14,7 @@ def hold_written_and_read(knots):
 
 
 def accepted_blocks(line, answer):
-    """The blocks of a line that read accepts."""
+    """The blocks of a line that read accepts, and that of a sum."""
     name, *fields = line.split(" ")
     match name:
         case "read" if answer == "accepted":
@@ -23,6 +23,10 @@ def accepted_blocks(line, answer):
             return fields
         case "view" | "viewat" if answer.startswith(("view", "reading", "past")):
             return fields[:1]
+        case "combine" if answer.startswith("combined"):
+            return fields[2:] + answer.split(" ")[1:]
+        case "combine" if answer != "unreadable":
+            return fields[2:]
     return []
 
 
@@ -38,6 +42,7 @@ class Transcript:
         self.lines.append(line)
 
     def call(self, line, expected=None):
+        """It returns the answer, after which a look may stand."""
         before = list(self.reel.knots)
         answer = answer_to(line.encode(), self.reel)
         hold(expected in (None, answer), line[:200], "answers", answer[:200], "and not", expected)
@@ -49,6 +54,7 @@ class Transcript:
         self.hold_round_trips(line, answer)
         if answer == "unreadable" or answer.startswith("refused"):
             self.look_now_and_then()
+        return answer
 
     def hold_round_trips(self, line, answer):
         """read(write(reel)) is the reel after every call; write(read(block)) is the block, of every accepted one of
@@ -95,6 +101,16 @@ class Transcript:
     def view_at(self, shown, block, k, n, i):
         """The i-th of them is the one in this list, or there is none; or the view is refused with this number."""
         self.call(line_for("viewat", block, k, n, i), line_of_shown(shown))
+
+    def combine(self, answer, alpha, beta, block, other):
+        """The sum of the reels of two blocks has the knots in this list, or is refused with this number."""
+        self.call(line_for("combine", alpha, beta, block, other), line_of_sum(answer))
+
+    def read_sum(self):
+        """The sum that was just answered is read: from here on it is the reel."""
+        kind, block = self.answers[-1].split(" ")
+        hold(kind == "combined", "no sum to read:", self.answers[-1])
+        self.call(f"read {block}", "accepted")
 
     def unreadable(self, *lines):
         for line in lines:

@@ -45,7 +45,7 @@ isRefused accepted = false
 isRefused (number z) = false
 isRefused (refused n) = true
 
-answer-is : (o : Option ℕ) (said reply : Reply) → isRefused reply ≡ false → answered o said ≡ reply → (o ≡ none) × (said ≡ reply)
+pub answer-is : (o : Option ℕ) (said reply : Reply) → isRefused reply ≡ false → answered o said ≡ reply → (o ≡ none) × (said ≡ reply)
 answer-is none said reply plain e = (refl, e)
 answer-is (some n) said reply plain e = absurd (true≢false (ap isRefused e ∙ plain))
 

@@ -5,4 +5,5 @@ pub mod Replies
 pub mod Numbers
 pub mod RoundTrips
 pub mod Same
+pub mod Combination
 pub mod KnownResults

@@ -1,3 +1,4 @@
 pub mod Calls
 pub mod Same
+pub mod Combination
 pub mod KnownResults

@@ -5,8 +5,8 @@ use mathlib.Core.Path.{_≡_}
 use Prim.Native.Nat.{ℕ, _<_}
 use lib.Dec.{eqb}
 use lib.ListN.{length}
-use Rattle.integer.specs.Tests.{each, equal}
-use Rattle.scans.specs.Scan.{Scan, at, moisture}
+use Rattle.integer.specs.Tests.{equal}
+use Rattle.scans.specs.Scan.{Scan, at, moisture, pairwise}
 
 -- the position and C_0 of two scans agree
 abbrev pub agree : Scan → Scan → Bool
@@ -14,7 +14,7 @@ agree s t = eqb (s .position) (t .position) && equal (moisture s) (moisture t)
 
 -- yes exactly when the knot counts, positions and every C_0 agree
 unfoldable pub same : List Scan → List Scan → Bool
-same scans others = eqb (length scans) (length others) && each (length scans) (λ k. agree (at scans k) (at others k))
+same = pairwise agree
 
 -- (for the law on it) the knot counts, positions and every C_0 agree, as facts
 pub record Agreeing (scans others : List Scan) : Type 0 where

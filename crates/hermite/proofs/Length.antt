@@ -10,13 +10,13 @@ use Rattle.hermite.specs.Polynomial.{Polynomial, _⊕_, _⊙_, _⊗_, _�
 use Rattle.hermite.specs.Blend.{s, 1-s, rightWeights, ofOrder, doubleSum, blend}
 use Rattle.hermite.specs.Slope.{primed, lowered, K, slope}
 
-length-⊕ : (a b : Polynomial) → length (a ⊕ b) ≡ max (length a) (length b)
+pub length-⊕ : (a b : Polynomial) → length (a ⊕ b) ≡ max (length a) (length b)
 unfolding _⊕_
 length-⊕ [] b = omega arith
 length-⊕ (x ∷ a) [] = omega arith
 length-⊕ (x ∷ a) (y ∷ b) = omega (arith, length-⊕ a b)
 
-length-⊙ : (x : ℤ) (a : Polynomial) → length (x ⊙ a) ≡ length a
+pub length-⊙ : (x : ℤ) (a : Polynomial) → length (x ⊙ a) ≡ length a
 unfolding _⊙_
 length-⊙ x [] = refl
 length-⊙ x (y ∷ a) = ap suc (length-⊙ x a)

@@ -1,4 +1,5 @@
 pub mod Linear
+pub mod Combination
 pub mod Bases
 pub mod Taylor
 pub mod Water

@@ -4,7 +4,6 @@ pub mod Difference
 pub mod Floor
 pub mod Sum
 pub mod Within
-pub mod Magnitude
 pub mod Tests
 pub mod Claim
 pub mod Stores

@@ -6,7 +6,7 @@ use native.Mathlib.Omega.{arith}
 use native.Mathlib.Decide.{ℕ-discrete}
 use lib.IntN.{ℤ, pos, _+ℤ_, _*ℤ_, +ℤ-idl, +ℤ-idr, +ℤ-assoc}
 use Rattle.integer.specs.Sum.{sum}
-use Rattle.integer.proofs.Laws.{+ℤ-interchange, *ℤ-distrib}
+use Rattle.integer.proofs.Laws.{+ℤ-interchange, *ℤ-distrib, *ℤ-distrib-right, *ℤ-assoc}
 
 pub sum-cong : (m : ℕ) (f h : ℕ → ℤ) → ((j : ℕ) → j ≤ m → f j ≡ h j) → sum m f ≡ sum m h
 unfolding sum
@@ -22,6 +22,18 @@ pub sum-* : (m : ℕ) (x : ℤ) (f : ℕ → ℤ) → sum m (λ j. x *ℤ f j) �
 unfolding sum
 sum-* zero x f = refl
 sum-* (suc m) x f = ap (λ y. y +ℤ x *ℤ f (suc m)) (sum-* m x f) ∙ sym (*ℤ-distrib x (sum m f) (f (suc m)))
+
+-- a sum is linear in its weights h
+pub sum-combines : (m : ℕ) (α β : ℤ) (f g h b : ℕ → ℤ) → ((j : ℕ) → h j ≡ α *ℤ f j +ℤ β *ℤ g j) →
+    sum m (λ j. h j *ℤ b j) ≡ α *ℤ sum m (λ j. f j *ℤ b j) +ℤ β *ℤ sum m (λ j. g j *ℤ b j)
+sum-combines m α β f g h b is =
+    sum-cong m _ _ (λ j k. parted j) ∙ sum-+ m (λ j. α *ℤ (f j *ℤ b j)) (λ j. β *ℤ (g j *ℤ b j)) ∙
+    ap₂ (λ x y. x +ℤ y) (sum-* m α (λ j. f j *ℤ b j)) (sum-* m β (λ j. g j *ℤ b j))
+  where
+    parted : (j : ℕ) → h j *ℤ b j ≡ α *ℤ (f j *ℤ b j) +ℤ β *ℤ (g j *ℤ b j)
+    parted j =
+        ap (λ x. x *ℤ b j) (is j) ∙ *ℤ-distrib-right (α *ℤ f j) (β *ℤ g j) (b j) ∙
+        ap₂ (λ x y. x +ℤ y) (*ℤ-assoc α (f j) (b j)) (*ℤ-assoc β (g j) (b j))
 
 pub sum-0 : (m : ℕ) (f : ℕ → ℤ) → ((j : ℕ) → j ≤ m → f j ≡ pos 0) → sum m f ≡ pos 0
 unfolding sum

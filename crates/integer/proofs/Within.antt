@@ -1,13 +1,14 @@
 -- Bounds of sums, products and negations, and that a number bounded below half of a width's power fits in that width.
-use mathlib.Core.Path.{_≡_, sym, _∙_, ap, ap₂}
+use mathlib.Core.Path.{_≡_, refl, sym, _∙_, ap, ap₂}
 use Prim.Native.Nat.{ℕ, zero, suc, _+_, _*_, _^_, _≤_, _<_, min}
 use native.Mathlib.Nat.{mul-le-mul, mul-le-mul-right}
 use native.Mathlib.Omega.{arith}
 use lib.IntN.{ℤ, pos, negsuc, negℤ, _+ℤ_, _-ℤ_, _*ℤ_, natAbs, +ℤ-idl}
-use lib.Signed.{mag}
-use mir.Syntax.{Width, w64}
+use lib.Dec.{ltb→lt}
+use lib.Signed.{mag, _≤ℤ_, _<ℤ_}
+use mir.Syntax.{Width, w32, w64}
 use mir.Val.{SFits, hbits, toZ, ofZ}
-use mir.Facts.{toZ-ofZ}
+use mir.Facts.{toZ-ofZ, sfits-widen}
 use Rattle.integer.specs.Sum.{sum}
 use Rattle.integer.specs.Within.{up, dn, Within}
 use Rattle.integer.proofs.Difference.{_⊖_, as-⊖, ⊖-≡, ⊖-+}
@@ -56,6 +57,10 @@ pub fits-within : (w : Width) (z : ℤ) → SFits w z → Within (2 ^ hbits w) z
 fits-within w (pos n) f = record { hi = omega (arith, f .sfits); lo = omega arith }
 fits-within w (negsuc n) f = record { hi = omega arith; lo = f .sfits }
 
+-- a number of 32 bits, as it is held in 64
+pub wide-is : (z : ℤ) → SFits w32 z → toZ w64 (ofZ w64 (toZ w32 (ofZ w32 z))) ≡ z
+wide-is z f = ap (λ y. toZ w64 (ofZ w64 y)) (toZ-ofZ f) ∙ toZ-ofZ (sfits-widen tt f)
+
 -- what is computed, as it is held in 64 bits
 pub computed-is : {z y : ℤ} → z ≡ y → SFits w64 y → toZ w64 (ofZ w64 z) ≡ y
 computed-is e f = ap (λ z. toZ w64 (ofZ w64 z)) e ∙ toZ-ofZ f
@@ -74,6 +79,19 @@ within-size (negsuc n) = record { hi = omega arith; lo = omega arith }
 pub size-within : {B : ℕ} (z : ℤ) → Within B z → natAbs z ≤ B
 size-within (pos n) w = w .hi
 size-within (negsuc n) w = w .lo
+
+opposite-size : (n : ℕ) → natAbs (negℤ (pos n)) ≡ n
+opposite-size zero = refl
+opposite-size (suc n) = refl
+
+pub size-times : (n : ℕ) (z : ℤ) → natAbs (pos n *ℤ z) ≡ n * natAbs z
+size-times n (pos k) = refl
+size-times n (negsuc k) = opposite-size (n * suc k)
+
+-- of a number from 0 on
+pub size-below : (z : ℤ) (n : ℕ) → pos 0 ≤ℤ z → z <ℤ pos n → natAbs z < n
+size-below (pos k) n low high = ltb→lt k n (high .lt)
+size-below (negsuc k) n low high = absurd (low .le)
 
 -- a sum of terms, each bounded by its share of B
 unfoldable pub shares : ℕ → (ℕ → ℕ) → ℕ

@@ -1,4 +1,4 @@
--- Each refusal of the table has its number, from 1 to 12; a number of 0 says that nothing refuses, and another one what does.
+-- Each refusal of the table has its number, from 1 to 14; a number of 0 says that nothing refuses, and another one what does.
 use mathlib.Core.Option.{Option, none, some}
 use mathlib.Core.Path.{_≡_, refl, sym, _∙_, ap}
 use Prim.Native.Nat.{ℕ, zero, suc}
@@ -20,6 +20,8 @@ numbers Refusals.Index = record { known = omega arith; is = refl }
 numbers Refusals.Output = record { known = omega arith; is = refl }
 numbers Refusals.Stride = record { known = omega arith; is = refl }
 numbers Refusals.Readings = record { known = omega arith; is = refl }
+numbers Refusals.Unlike = record { known = omega arith; is = refl }
+numbers Refusals.Multiplier = record { known = omega arith; is = refl }
 
 pub passed : {n : ℕ} {found : Option ℕ} → Numbers n found → n ≡ 0 → found ≡ none
 passed numbered e = sym (numbered .is) ∙ ap refusalOf e

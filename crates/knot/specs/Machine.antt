@@ -53,17 +53,19 @@ number Refusals.Index = 9
 number Refusals.Output = 10
 number Refusals.Stride = 11
 number Refusals.Readings = 12
+number Refusals.Unlike = 13
+number Refusals.Multiplier = 14
 
 -- the number that a verdict refuses with
 abbrev pub refusal : Verdict → Option ℕ
 refusal Verdicts.Passed = none
 refusal (Verdicts.Refused r) = some (number r)
 
--- the refusal that a number from 0 to 12 stands for; 0 is none
+-- the refusal that a number from 0 to 14 stands for; 0 is none
 abbrev pub refusalOf : ℕ → Option ℕ
 refusalOf zero = none
 refusalOf (suc n) = some (suc n)
 
 pub record Numbers (n : ℕ) (found : Option ℕ) : Type 0 where
-  pub known : n ≤ 12
+  pub known : n ≤ 14
   pub is : refusalOf n ≡ found

@@ -10,6 +10,7 @@ pub use limits::COEFFICIENTS_MAX;
 pub use limits::GAP_MAX;
 pub use limits::GRADE_MAX;
 pub use limits::KNOTS_MAX;
+pub use limits::MULTIPLIER_MAX;
 pub use limits::POSITION_MAX;
 pub use limits::READINGS_MAX;
 pub use limits::SIZE_MAX;

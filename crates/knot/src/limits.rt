@@ -1,4 +1,4 @@
-// The limits of a reel, and of the readings beside it, each in one place.
+// The limits of a reel, of the readings beside it, and of the multipliers of a sum, each in one place.
 pub const KNOTS_MAX: usize = 129;
 
 // in steps
@@ -17,3 +17,6 @@ pub const SIZE_MAX: u64 = 268_435_456;
 
 // of one knot, in a block
 pub const READINGS_MAX: usize = 32;
+
+// of a reel in a sum, of either sign
+pub const MULTIPLIER_MAX: u64 = 16;

@@ -1,21 +1,11 @@
 // The size rule, for one list and one gap.
 ghost use mathlib.Core.Path.{_≡_};
 ghost use Prim.Native.Nat.{_+_, _≤_};
-ghost use lib.IntN.{natAbs};
 ghost use lib.ListN.{length};
 ghost use Rattle.rounding.specs.Limits.{gapMax, gradeMax};
 ghost use Rattle.rounding.specs.Size.{sized as Size·sized};
 use crate::limits::SIZE_MAX;
-
-fn magnitude(c: i32) -> u64
-    ensures { λ r. ⌜ r ≡ natAbs c ⌝ }
-{
-    if c < 0 {
-        (-(c as i64)) as u64
-    } else {
-        c as u64
-    }
-}
+use magnitude::magnitude;
 
 // Each |C_j| × h^j is at most 2^28.
 pub fn sized(h: u64, c: &[i32]) -> bool
@@ -25,7 +15,7 @@ pub fn sized(h: u64, c: &[i32]) -> bool
     let mut power = 1;
     let mut j = 0;
     while j < c.len() {
-        if SIZE_MAX < magnitude(c[j]) * power {
+        if SIZE_MAX < magnitude(c[j] as i64) * power {
             return false;
         }
         power *= h;

@@ -28,6 +28,10 @@ pub enum Refusal {
     Stride,
     // a 33rd reading
     Readings,
+    // unlike positions or grades, of two reels
+    Unlike,
+    // a multiplier outside −16 to 16
+    Multiplier,
 }
 
 impl Refusal {
@@ -47,12 +51,14 @@ impl Refusal {
             Refusal::Output => 10,
             Refusal::Stride => 11,
             Refusal::Readings => 12,
+            Refusal::Unlike => 13,
+            Refusal::Multiplier => 14,
         }
     }
 
     // The refusal of a number of the table.
     pub fn numbered(n: u32) -> Self
-        requires { ⌜ (1 ≤ n) × (n ≤ 12) ⌝ }
+        requires { ⌜ (1 ≤ n) × (n ≤ 14) ⌝ }
         ensures { λ r. ⌜ Machine·number r ≡ n ⌝ }
     {
         match n {
@@ -67,7 +73,9 @@ impl Refusal {
             9 => Refusal::Index,
             10 => Refusal::Output,
             11 => Refusal::Stride,
-            _ => Refusal::Readings,
+            12 => Refusal::Readings,
+            13 => Refusal::Unlike,
+            _ => Refusal::Multiplier,
         }
     }
 }

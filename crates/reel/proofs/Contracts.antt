@@ -9,7 +9,7 @@ use lib.IntN.{ℤ}
 use Rattle.block.specs.Block.{plainEdition, block}
 use Rattle.block.specs.Reading.{editionOf}
 use Rattle.calls.specs.Calls.{accepted, clear, append, correct, read, write, value, trend, total}
-use Rattle.reel.specs.Machine.{scans, Held, replyOf, Does}
+use Rattle.reel.specs.Machine.{scans, Held, replyOf, Does, Combines}
 use Rattle.reel.specs.declared.held.Reel.{Reel}
 use Rattle.reel.specs.declared.answer.Handed.{Handed}
 use Rattle.reel.proofs.held.Reel.empty.Reads as empty-reads
@@ -21,6 +21,7 @@ use Rattle.reel.proofs.held.Reel.write.Reads as write-reads
 use Rattle.reel.proofs.held.Reel.value.Reads as value-reads
 use Rattle.reel.proofs.held.Reel.trend.Reads as trend-reads
 use Rattle.reel.proofs.held.Reel.total.Reads as total-reads
+use Rattle.reel.proofs.held.Reel.combine.Reads as combine-reads
 
 -- what a sequence begins with
 pub empty-is : (begin : Reel) → empty-reads.Post tt tt begin tt → (Held begin) × (scans begin ≡ [])
@@ -67,3 +68,10 @@ module _ (given : Reel) (handed : Handed) (held : Held given) where
   pub total-does : (i j : ℕ) → (total-reads.Pre tt (given, (i, (j, tt))) → total-reads.Post tt (given, (i, (j, tt))) handed (given, (i, (j, tt)))) →
       Does (total i j) given (handed .answer) (handed .reel) []
   total-does i j contract = contract held
+
+-- and that of the sum, which is no call of a sequence, is `Combines`
+pub combine-combines : (α β : ℤ) (given other : Reel) (handed : Handed) → Held given → Held other →
+    (combine-reads.Pre tt (given, (α, (β, (other, tt)))) →
+    combine-reads.Post tt (given, (α, (β, (other, tt)))) handed (given, (α, (β, (other, tt))))) →
+    Combines α β given other (handed .answer) (handed .reel)
+combine-combines α β given other handed held held-other contract = contract (held, held-other)

@@ -3,11 +3,13 @@ use mathlib.Core.Bool.{false}
 use mathlib.Core.List.{List}
 use mathlib.Core.Path.{_≡_}
 use Prim.Native.Nat.{ℕ}
+use lib.IntN.{ℤ}
 use Rattle.scans.specs.Scan.{Scan}
 use Rattle.scans.specs.Standing.{Standing}
 use Rattle.knot.specs.Machine.{Filled, knotIn, scansIn, number as refusalNumber}
 use Rattle.knot.specs.declared.held.Knot.{Knot}
 use Rattle.calls.specs.Calls.{Call, Reply, accepted, number, refused, changes, replyTo, standingAfter, output}
+use Rattle.calls.specs.Combination.{sumReply, sumScans}
 use Rattle.reel.specs.declared.held.Reel.{Reel}
 use Rattle.reel.specs.declared.answer.Answer.{Answer}
 use Rattle.reel.specs.declared.answer.Answer.the-variants as Answers
@@ -44,3 +46,13 @@ pub record Does (call : Call) (given : Reel) (answer : Answer) (handed : Reel) (
   pub noChangeKeeps : changes call ≡ false → handed ≡ given
   -- all bytes of the output are the model's
   pub writes : out ≡ output call (scans given)
+
+-- what the sum promises, of the reels that it gets, its answer and the reel that it hands over (request 4/14)
+pub record Combines (α β : ℤ) (given other : Reel) (answer : Answer) (handed : Reel) : Type 0 where
+  -- the reply is the model's on the scans given
+  pub replies : replyOf answer ≡ sumReply α β (scans given) (scans other)
+  -- the scans of the reel handed over are the model's
+  pub leaves : scans handed ≡ sumScans α β (scans given) (scans other)
+  pub held : Held handed
+  -- after a refusal it is the very first reel
+  pub refusalKeeps : (n : ℕ) → replyOf answer ≡ refused n → handed ≡ given

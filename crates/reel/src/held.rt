@@ -10,7 +10,7 @@ ghost use Rattle.block.specs.Reading.{editionOf};
 ghost use Rattle.calls.specs.Calls.{append as Calls·append, clear as Calls·clear, correct as Calls·correct};
 ghost use Rattle.calls.specs.Calls.{read as Calls·read, write as Calls·write, accepted, causes, positionOf};
 ghost use Rattle.calls.specs.Calls.{total as Calls·total, trend as Calls·trend, value as Calls·value};
-ghost use Rattle.reel.specs.Machine.{Does, Held, replyOf, scans};
+ghost use Rattle.reel.specs.Machine.{Combines, Does, Held, replyOf, scans};
 ghost use Rattle.reel.specs.declared.answer.Answer.the-variants as Answers;
 ghost use Rattle.calls.specs.Same.{same as Same·same};
 use crate::answer::Answer;
@@ -238,6 +238,27 @@ impl Reel {
         let knots = self.knots;
         let others = other.knots;
         comparison::same(knots, self.count, others, other.count)
+    }
+
+    // The reel with the coefficients αA + βB, A being this reel's and B the other's: 14, 13, 6. After a refusal it is
+    // this reel, as it was.
+    pub fn combine(mut self, alpha: i32, beta: i32, other: Reel) -> Handed
+        requires { ⌜ (Held self) × (Held other) ⌝ }
+        ensures { λ r. ⌜ Combines alpha beta self other (r .answer) (r .reel) ⌝ }
+    {
+        let mine = self.knots;
+        let its = other.knots;
+        let sum = combination::combine(alpha, mine, self.count, beta, its, other.count);
+        let verdict = sum.verdict;
+        if let Verdict::Refused(refusal) = verdict {
+            return self.refused(refusal);
+        }
+        let added = sum.knots;
+        self.knots = added;
+        Handed {
+            reel: self,
+            answer: Answer::Accepted,
+        }
     }
 
     // The number of knots.

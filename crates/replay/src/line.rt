@@ -7,6 +7,7 @@ use crate::field::LINE_MAX;
 use crate::field::symbol_at;
 use crate::number::UNSIGNED_MAX;
 use crate::number::number_at;
+use crate::reel_calls::combine;
 use crate::reel_calls::listed;
 use crate::reel_calls::loaded;
 use crate::reel_calls::same;
@@ -15,6 +16,7 @@ use crate::views::view;
 use crate::views::view_at;
 use crate::words::APPEND;
 use crate::words::CLEAR;
+use crate::words::COMBINE;
 use crate::words::CORRECT;
 use crate::words::NO_WORD;
 use crate::words::READ;
@@ -49,6 +51,7 @@ fn called(reel: Reel, word: u64, line: &[u8], at: usize) -> Reel
         APPEND | CORRECT => listed(reel, word, x, line, at),
         WRITE => write(reel, line, at),
         SAME => same(reel, line, at),
+        COMBINE => combine(reel, line, at),
         VIEW => {
             view(line, at);
             reel

@@ -11,9 +11,9 @@ use crate::field::symbol_at;
 // The greatest number of 32 bits without a sign and with one, and the least, without its minus.
 pub const UNSIGNED_MAX: u64 = 0xffff_ffff;
 
-pub const SIGNED_MAX: u64 = 0x7fff_ffff;
+const SIGNED_MAX: u64 = 0x7fff_ffff;
 
-pub const SIGNED_LEAST: u64 = 0x8000_0000;
+const SIGNED_LEAST: u64 = 0x8000_0000;
 
 pub struct Number {
     pub negative: bool,
@@ -62,5 +62,26 @@ pub(crate) fn number_at(line: &[u8], at: usize, most: u64, least: u64) -> Number
         negative,
         magnitude: 0,
         next: NOWHERE,
+    }
+}
+
+// A number with a sign, and where the next field starts.
+pub struct Signed {
+    pub value: i32,
+    pub next: usize,
+}
+
+// The number with a sign of the field at a place.
+pub fn signed_at(line: &[u8], at: usize) -> Signed
+    ensures { λ r. ⌜ (at ≤ length (now (line .entry)) → at < r .next) ⌝ }
+{
+    let number = number_at(line, at, SIGNED_MAX, SIGNED_LEAST);
+    let mut value = number.magnitude as i64;
+    if number.negative {
+        value = 0 - value;
+    }
+    Signed {
+        value: value as i32,
+        next: number.next,
     }
 }

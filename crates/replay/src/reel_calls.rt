@@ -1,15 +1,16 @@
-// The calls that take a list, a block or a lent output: append, correct, read, same and write. Their fields are read
-// off the line from a place on.
+// The calls that take a list, blocks or a lent output: append, correct, read, same, combine and write. Their fields are
+// read off the line from a place on.
 ghost use Rattle.reel.specs.Machine.{Held};
+use crate::answers::refused;
 use crate::answers::told;
 use crate::answers::unreadable;
 use crate::field::room;
 use crate::hex::bytes;
 use crate::number::Number;
-use crate::number::SIGNED_LEAST;
-use crate::number::SIGNED_MAX;
 use crate::number::number_at;
+use crate::number::signed_at;
 use crate::words::APPEND;
+use magnitude::magnitude;
 use reel::Answer;
 use reel::Handed;
 use reel::Reel;
@@ -27,16 +28,13 @@ pub fn listed(reel: Reel, word: u64, first: Number, line: &[u8], at: usize) -> R
     let mut count = 0;
     let mut from = first.next;
     while from <= line.len() {
-        let number = number_at(line, from, SIGNED_MAX, SIGNED_LEAST);
+        let number = signed_at(line, from);
         from = number.next;
         if LISTED_MAX <= count {
             continue;
         }
-        let mut value = number.magnitude as i64;
-        if number.negative {
-            value = 0 - value;
-        }
-        list[count] = value as i32;
+        let value = number.value;
+        list[count] = value;
         count += 1;
     }
     let coefficients = &list[0..count];
@@ -77,30 +75,109 @@ pub fn loaded(reel: Reel, line: &[u8], at: usize) -> Block
     }
 }
 
-// `same HEX HEX`, apart from the reel of the script.
-pub fn same(reel: Reel, line: &[u8], at: usize) -> Reel
+// The reels of two blocks; and whether they are the last fields of the line, and read accepts both.
+pub struct Pair {
+    pub one: Reel,
+    pub other: Reel,
+    pub readable: bool,
+}
+
+fn accepted(answer: Answer) -> bool {
+    match answer {
+        Answer::Accepted => true,
+        Answer::Number(_) => false,
+        Answer::Refused(_) => false,
+    }
+}
+
+// `HEX HEX`, apart from the reel of the script.
+pub fn loaded_pair(reel: Reel, line: &[u8], at: usize) -> Pair
     requires { ⌜ Held reel ⌝ }
-    ensures { λ r. ⌜ Held r ⌝ }
+    ensures { λ r. ⌜ (Held (r .one)) × (Held (r .other)) ⌝ }
 {
     let first = loaded(reel, line, at);
     let second = loaded(reel, line, first.next);
     let one = first.handed;
     let other = second.handed;
+    let first_reel = one.reel;
+    let second_reel = other.reel;
     let first_answer = one.answer;
     let second_answer = other.answer;
-    if second.next == line.len() + 1 {
-        if let Answer::Accepted = first_answer {
-            if let Answer::Accepted = second_answer {
-                if one.reel.same(other.reel) {
-                    io::write_all(1, b"yes");
-                } else {
-                    io::write_all(1, b"no");
-                }
-                return reel;
-            }
-        }
+    let mut readable = second.next == line.len() + 1;
+    if !accepted(first_answer) {
+        readable = false;
     }
-    unreadable(reel)
+    if !accepted(second_answer) {
+        readable = false;
+    }
+    Pair {
+        one: first_reel,
+        other: second_reel,
+        readable,
+    }
+}
+
+// `same HEX HEX`.
+pub fn same(reel: Reel, line: &[u8], at: usize) -> Reel
+    requires { ⌜ Held reel ⌝ }
+    ensures { λ r. ⌜ Held r ⌝ }
+{
+    let pair = loaded_pair(reel, line, at);
+    if !pair.readable {
+        return unreadable(reel);
+    }
+    let one = pair.one;
+    if one.same(pair.other) {
+        io::write_all(1, b"yes");
+    } else {
+        io::write_all(1, b"no");
+    }
+    reel
+}
+
+// The reel's block in hexadecimal.
+fn say_block(reel: Reel)
+    requires { ⌜ Held reel ⌝ }
+{
+    let mut output = room(0);
+    let most = LENT_MAX as usize;
+    let lent = &mut output[0..most];
+    let written = reel.write(lent);
+    let answer = written.answer;
+    if let Answer::Number(size) = answer {
+        let count = magnitude(size) as usize;
+        // never so, since there is room for every block; the test is for the slice
+        if most < count {
+            return;
+        }
+        let mut digits = room(0);
+        let block = &lent[..];
+        let end = put_hex(&mut digits, 0, &block[0..count]);
+        io::write_all(1, &digits[0..end]);
+    }
+}
+
+// `combine A B HEX HEX`.
+pub fn combine(reel: Reel, line: &[u8], at: usize) -> Reel
+    requires { ⌜ Held reel ⌝ }
+    ensures { λ r. ⌜ Held r ⌝ }
+{
+    let alpha = signed_at(line, at);
+    let beta = signed_at(line, alpha.next);
+    let pair = loaded_pair(reel, line, beta.next);
+    if !pair.readable {
+        return unreadable(reel);
+    }
+    let one = pair.one;
+    let sum = one.combine(alpha.value, beta.value, pair.other);
+    let answer = sum.answer;
+    if let Answer::Refused(cause) = answer {
+        refused(cause.number());
+        return reel;
+    }
+    io::write_all(1, b"combined ");
+    say_block(sum.reel);
+    reel
 }
 
 // The greatest length of an output that a line may lend.

@@ -17,6 +17,8 @@ pub const TOTAL: u64 = 1_29_24_29_10_21;
 
 pub const SAME: u64 = 1_28_10_22_14;
 
+pub const COMBINE: u64 = 1_12_24_22_11_18_23_14;
+
 pub const VIEW: u64 = 1_31_18_14_32;
 
 pub const VIEW_AT: u64 = 1_31_18_14_32_10_29;

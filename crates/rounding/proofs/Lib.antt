@@ -5,3 +5,4 @@ pub mod Fits
 pub mod Distance
 pub mod Taylor
 pub mod Integral
+pub mod Combination

@@ -7,3 +7,4 @@ pub mod Value
 pub mod Trend
 pub mod Water
 pub mod Taylor
+pub mod Combination

@@ -1,4 +1,4 @@
--- Document 01, "The reel": its limits; and that of request 1/14.
+-- Document 01, "The reel": its limits; and those of requests 1/14 and 4/14.
 use Prim.Native.Nat.{ℕ}
 
 -- a reel has 0 to 129 knots
@@ -24,3 +24,7 @@ sizeMax = 268435456
 -- request 1/14: a knot has up to 32 readings, in a block
 abbrev pub readingsMax : ℕ
 readingsMax = 32
+
+-- request 4/14: a multiplier is −16 to 16
+abbrev pub multiplierMax : ℕ
+multiplierMax = 16

@@ -6,3 +6,4 @@ pub mod Standing
 pub mod Pieces
 pub mod Sums
 pub mod Distances
+pub mod Combination

@@ -1,6 +1,6 @@
 -- The first cause of a call, as far as its causes were looked at one after the other; and what holds where none does.
-use borrow.Author.Tests.{ltb-false, leb-false, lt-ltb, le-ltb, le-leb, lt-leb}
-use mathlib.Core.Bool.{cond, not}
+use borrow.Author.Tests.{not-false, ltb-false, leb-false, lt-ltb, le-ltb, le-leb, lt-leb}
+use mathlib.Core.Bool.{true, false, cond, not}
 use mathlib.Core.List.{List, [], _∷_, _++_}
 use mathlib.Core.Option.{Option, none, some}
 use mathlib.Core.Path.{_≡_, refl, _∙_}
@@ -8,12 +8,13 @@ use Prim.Native.Nat.{ℕ, _+_, _-_, _≤_, _<_}
 use native.Mathlib.Omega.{arith}
 use lib.Dec.{ltb, leb}
 use lib.IntN.{ℤ}
-use lib.ListN.{length}
+use lib.ListN.{length, drop}
 use Rattle.rounding.specs.Limits.{knotsMax}
 use Rattle.scans.specs.Scan.{Scan, scanOf}
-use Rattle.scans.specs.SizeRule.{sizeRule}
-use Rattle.scans.specs.RefusalTable.{first, listCauses, positionCauses, sizeCauses, badSize}
-use Rattle.scans.specs.Order.{appendCauses, correctCauses, queryCauses, rangeCauses}
+use Rattle.scans.specs.SizeRule.{sizeRule, eachFollows}
+use Rattle.scans.specs.RefusalTable.{Cause, first, listCauses, positionCauses, sizeCauses, badSize, badMultiplier}
+use Rattle.scans.specs.Combination.{allAligned, combination}
+use Rattle.scans.specs.Order.{appendCauses, correctCauses, queryCauses, rangeCauses, combinationCauses}
 use Rattle.scans.specs.Pieces.{mark, InReel}
 use Rattle.scans.proofs.Causes.{first-found, first-later, quiet, neither}
 
@@ -85,3 +86,30 @@ in-range n i j e =
 
 pub range-free : (n i j : ℕ) → 2 ≤ n → InRange n i j → first (rangeCauses n i j) ≡ none
 range-free n i j two r = rw (le-ltb n 2 two, le-ltb j i (r .order), lt-leb n j (r .last)) refl
+
+-- request 4/14: 14, then 13, then 6
+module _ (α β : ℤ) (A B : List Scan) where
+  abbrev multipliers : List Cause
+  multipliers = badMultiplier α ∷ badMultiplier β ∷ []
+
+  -- those after them
+  abbrev others : List Cause
+  others = drop 2 (combinationCauses α β A B)
+
+  abbrev sizes : List Cause
+  sizes = badSize (eachFollows (combination α β A B)) ∷ []
+
+  pub sum-multiplier : {n : ℕ} → first multipliers ≡ some n → first (combinationCauses α β A B) ≡ some n
+  sum-multiplier e = first-found multipliers others e
+
+  pub sum-unlike : first multipliers ≡ none → allAligned A B ≡ false → first (combinationCauses α β A B) ≡ some 13
+  sum-unlike e unlike = first-later multipliers others e ∙ rw unlike refl
+
+  pub sum-size : first multipliers ≡ none → allAligned A B ≡ true → first (combinationCauses α β A B) ≡ first sizes
+  sum-size e alike = first-later multipliers others e ∙ rw alike refl
+
+  -- what holds where none of them does
+  pub sum-free : first (combinationCauses α β A B) ≡ none → (allAligned A B ≡ true) × (eachFollows (combination α β A B) ≡ true)
+  sum-free e =
+      let q = quiet (combinationCauses α β A B) e in
+      (not-false (allAligned A B) (q .1 .1 .0), not-false (eachFollows (combination α β A B)) (q .1 .1 .1 .0))

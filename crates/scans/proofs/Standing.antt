@@ -42,6 +42,17 @@ follows-new : (last : Option Scan) (s : Scan) → follows last s ≡ true → si
 follows-new none s e = e
 follows-new (some held) s e = both-second (sized (gap held (s .position)) (rightList held)) (sizeRule (some held) s none) e
 
+-- the size rule of each scan, where each follows those before it
+pub size-follows : (scans : List Scan) → ((k : ℕ) → k < length scans → follows (before scans k) (at scans k) ≡ true) → (k : ℕ) → k < length scans →
+    sizeRule (before scans k) (at scans k) (after scans k) ≡ true
+size-follows scans each k h = go (decLt (suc k) (length scans)) (follows-new (before scans k) (at scans k) (each k h))
+  where
+    go : Dec (suc k < length scans) → sizeRule (before scans k) (at scans k) none ≡ true → sizeRule (before scans k) (at scans k) (after scans k) ≡ true
+    go (yes d) new =
+        rw (there scans (suc k) d)
+        (joined (before scans k) (at scans k) (at scans (suc k)) new (follows-held (at scans k) (at scans (suc k)) (rw (there scans k h) at (each (suc k) d))))
+    go (no d) new = rw (past scans (suc k) (omega arith)) new
+
 -- ---- the size rule with the gap on one side of a scan, of scans that stand
 
 size-right : (l : Option Scan) (s r : Scan) → sizeRule l s (some r) ≡ true → sized (gap s (r .position)) (rightList s) ≡ true

@@ -1,9 +1,10 @@
--- A sum over pieces: it depends on those pieces only, and c numbers within B add up to one within c × B.
-use mathlib.Core.Path.{_≡_, refl}
+-- A sum over pieces: it depends on those pieces only, c numbers within B add up to one within c × B, and it is linear.
+use mathlib.Core.Path.{_≡_, refl, sym, _∙_, ap₂}
 use Prim.Native.Nat.{ℕ, zero, suc, _+_, _*_, _≤_, _<_}
 use native.Mathlib.Omega.{arith}
-use lib.IntN.{ℤ}
+use lib.IntN.{ℤ, _+ℤ_, _*ℤ_, *ℤ-zero}
 use Rattle.integer.specs.Within.{Within}
+use Rattle.integer.proofs.Laws.{+ℤ-interchange, *ℤ-distrib}
 use Rattle.integer.proofs.Within.{within-more, within-add, within-natural}
 use Rattle.scans.specs.Queries.{sumFrom}
 
@@ -17,3 +18,12 @@ unfolding sumFrom
 sum-within f B i zero each = within-more (omega arith) (within-natural 0)
 sum-within f B i (suc c) each =
     within-more (omega arith) (within-add _ _ (sum-within f B i c (λ k h b. each k h (omega arith))) (each (i + c) (omega arith) (omega arith)))
+
+pub sum-combines : (α β : ℤ) (f g h : ℕ → ℤ) (i c : ℕ) → ((k : ℕ) → i ≤ k → k < i + c → h k ≡ α *ℤ f k +ℤ β *ℤ g k) →
+    sumFrom h i c ≡ α *ℤ sumFrom f i c +ℤ β *ℤ sumFrom g i c
+unfolding sumFrom
+sum-combines α β f g h i zero each = rw (*ℤ-zero α, *ℤ-zero β) refl
+sum-combines α β f g h i (suc c) each =
+    ap₂ (λ x y. x +ℤ y) (sum-combines α β f g h i c (λ k l b. each k l (omega arith))) (each (i + c) (omega arith) (omega arith)) ∙
+    +ℤ-interchange (α *ℤ sumFrom f i c) (β *ℤ sumFrom g i c) (α *ℤ f (i + c)) (β *ℤ g (i + c)) ∙
+    sym (ap₂ (λ x y. x +ℤ y) (*ℤ-distrib α (sumFrom f i c) (f (i + c))) (*ℤ-distrib β (sumFrom g i c) (g (i + c))))

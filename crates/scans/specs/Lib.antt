@@ -2,6 +2,8 @@ pub mod Scan
 pub mod SizeRule
 pub mod Standing
 pub mod RefusalTable
+pub mod Combination
 pub mod Order
 pub mod Pieces
 pub mod Queries
+pub mod Combined

@@ -1,14 +1,15 @@
 -- Document 01, "Refusal table", "Order": the causes of append, correct and the queries, in the order in which they are
--- asked. Those of read are `blockCauses` of block/specs/Reading.antt.
+-- asked, and those of request 4/14. Those of read are `blockCauses` of block/specs/Reading.antt.
 use mathlib.Core.List.{List, [], _∷_, _++_}
 use mathlib.Core.Option.{Option}
 use Prim.Native.Nat.{ℕ, _+_}
 use lib.IntN.{ℤ}
 use lib.ListN.{length}
 use Rattle.scans.specs.Scan.{Scan, scanOf}
-use Rattle.scans.specs.SizeRule.{sizeRule}
+use Rattle.scans.specs.SizeRule.{sizeRule, eachFollows}
 use Rattle.scans.specs.RefusalTable.{Cause, tooMany, badSize, outside, tooFew, noKnot, noRange}
-use Rattle.scans.specs.RefusalTable.{listCauses, positionCauses, sizeCauses}
+use Rattle.scans.specs.RefusalTable.{unlikeReels, badMultiplier, listCauses, positionCauses, sizeCauses}
+use Rattle.scans.specs.Combination.{allAligned, combination}
 
 -- append, where `count` knots are held and `last` is the last of them: 2, 3, 4, 5, 6
 abbrev pub appendCauses : ℕ → Option Scan → ℕ → List ℤ → List Cause
@@ -27,3 +28,8 @@ queryCauses count from to x = tooFew count ∷ outside from to x ∷ []
 -- total from knot i to knot j: 8, 9
 abbrev pub rangeCauses : ℕ → ℕ → ℕ → List Cause
 rangeCauses count i j = tooFew count ∷ noRange i j count ∷ []
+
+-- request 4/14, the sum of the scans A and B: 14, 13, then 6 as append tests it, knot by knot
+abbrev pub combinationCauses : ℤ → ℤ → List Scan → List Scan → List Cause
+combinationCauses α β A B =
+    badMultiplier α ∷ badMultiplier β ∷ unlikeReels (allAligned A B) ∷ badSize (eachFollows (combination α β A B)) ∷ []

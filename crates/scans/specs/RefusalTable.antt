@@ -5,7 +5,8 @@ use mathlib.Core.List.{List, [], _∷_}
 use mathlib.Core.Option.{Option, none, some}
 use Prim.Native.Nat.{ℕ, _+_}
 use lib.Dec.{eqb, leb, ltb}
-use Rattle.rounding.specs.Limits.{knotsMax, positionMax, gradeMax, gapMax, readingsMax}
+use lib.IntN.{ℤ, natAbs}
+use Rattle.rounding.specs.Limits.{knotsMax, positionMax, gradeMax, gapMax, readingsMax, multiplierMax}
 use Rattle.scans.specs.Scan.{Scan, gap}
 use Rattle.scans.specs.SizeRule.{follows}
 
@@ -78,6 +79,14 @@ zeroStride n = record { number = 11; holds = eqb n 0 }
 -- request 1/14: a 33rd reading
 abbrev pub tooManyReadings : ℕ → Cause
 tooManyReadings count = record { number = 12; holds = ltb readingsMax count }
+
+-- request 4/14: unlike positions or grades, of two reels
+abbrev pub unlikeReels : Bool → Cause
+unlikeReels alike = record { number = 13; holds = not alike }
+
+-- request 4/14: a multiplier outside −16 to 16
+abbrev pub badMultiplier : ℤ → Cause
+badMultiplier α = record { number = 14; holds = ltb multiplierMax (natAbs α) }
 
 -- ---- what append, correct and the reader of blocks have in common
 

@@ -1,9 +1,13 @@
--- Document 01, "The reel": a knot of the list, in the model called a scan, and its neighbours.
+-- Document 01, "The reel": a knot of the list, in the model called a scan, and its neighbours; and two lists, scan by
+-- scan.
+use mathlib.Core.Bool.{Bool, _&&_}
 use mathlib.Core.List.{List, []}
 use mathlib.Core.Option.{Option, none}
 use Prim.Native.Nat.{ℕ, zero, suc, _-_}
+use lib.Dec.{eqb}
 use lib.IntN.{ℤ, pos}
 use lib.ListN.{length, getD, getElem?}
+use Rattle.integer.specs.Tests.{each}
 
 -- its position in steps and its coefficients C_0 to C_m; its grade is the length of the list less one
 pub record Scan : Type 0 where
@@ -45,3 +49,8 @@ before scans (suc k) = getElem? scans k
 
 abbrev pub after : List Scan → ℕ → Option Scan
 after scans k = getElem? scans (suc k)
+
+-- two lists of as many scans, and the two at each place pass a test
+abbrev pub pairwise : (Scan → Scan → Bool) → List Scan → List Scan → Bool
+pairwise test scans others =
+    eqb (length scans) (length others) && each (length scans) (λ k. test (at scans k) (at others k))

@@ -2,4 +2,5 @@ pub mod Runs
 pub mod Called
 pub mod RoundTrips
 pub mod Operators
+pub mod Combination
 pub mod Sequences

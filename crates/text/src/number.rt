@@ -1,9 +1,8 @@
 // Numbers in decimal.
-ghost use mathlib.Core.Path.{_≡_};
 ghost use Prim.Native.Nat.{_+_, _≤_};
-ghost use lib.IntN.{natAbs};
 ghost use lib.ListN.{length};
 ghost use Rattle.text.specs.Text.{Put, decimal, signedDecimal};
+use magnitude::magnitude;
 
 // The digits before the last one first: the last stands behind them.
 fn put_digits(out: &mut [u8], at: usize, n: u64) -> usize
@@ -25,13 +24,6 @@ pub fn put_decimal(out: &mut [u8], at: usize, n: u64) -> usize
     ensures { λ r. ⌜ r ≤ at + 20 ⌝ }
 {
     put_digits(out, at, n)
-}
-
-// The least i64 has no opposite, and -1 - z is there for every z below 0.
-fn magnitude(z: i64) -> u64
-    ensures { λ r. ⌜ r ≡ natAbs z ⌝ }
-{
-    if z < 0 { (-1 - z) as u64 + 1 } else { z as u64 }
 }
 
 pub fn put_signed(out: &mut [u8], at: usize, z: i64) -> usize

@@ -8,11 +8,15 @@ use lib.IntN.{ℤ}
 use lib.ListN.{length}
 use Rattle.rounding.specs.Limits.{knotsMax}
 use Rattle.scans.specs.RefusalTable.{first}
-use Rattle.knot.specs.Machine.{Graded, number as refusalNumber}
+use Rattle.scans.specs.Combination.{combination}
+use Rattle.scans.specs.Order.{combinationCauses}
+use Rattle.scans.proofs.Combination.{sum-standing}
+use Rattle.knot.specs.Machine.{Filled, Graded, number as refusalNumber}
 use Rattle.knot.specs.declared.table.Refusal.{Refusal}
 use Rattle.calls.specs.Calls.{Call, accepted, number, causes, changed, changes, says, lent, filled}
+use Rattle.calls.proofs.Combination.{refused-sum-replies, refused-sum-leaves, sum-replies, sum-leaves}
 use Rattle.calls.proofs.Effects.{refusal-replies, refusal-leaves, refusal-writes, acceptance-replies, acceptance-leaves, acceptance-writes}
-use Rattle.reel.specs.Machine.{scans, knotAt, Held, Does}
+use Rattle.reel.specs.Machine.{scans, knotAt, Held, Does, Combines}
 use Rattle.reel.specs.declared.held.Reel.{Reel}
 use Rattle.reel.specs.declared.answer.Answer.the-variants as Answers
 use Rattle.reel.specs.declared.answer.Handed.{Handed}
@@ -62,3 +66,28 @@ answers call r z w out held e answer is stays fills = record {
   noChangeKeeps = λ q. refl;
   writes = fills ∙ sym (acceptance-writes call (scans r) e);
 }
+
+-- ---- the sum of two reels
+
+module _ (α β : ℤ) (r other : Reel) (held : Held r) where
+  sum-refuses-by : (cause : Refusal) → first (combinationCauses α β (scans r) (scans other)) ≡ some (refusalNumber cause) →
+      Combines α β r other (Answers.Refused cause) r
+  sum-refuses-by cause e = record {
+    replies = sym (refused-sum-replies α β (scans r) (scans other) e);
+    leaves = sym (refused-sum-leaves α β (scans r) (scans other) e);
+    held = held;
+    refusalKeeps = λ n q. refl;
+  }
+
+  pub sum-refuses : (cause : Refusal) (handed : Handed) → (handed .reel ≡ r) × (handed .answer ≡ Answers.Refused cause) →
+      first (combinationCauses α β (scans r) (scans other)) ≡ some (refusalNumber cause) → Combines α β r other (handed .answer) (handed .reel)
+  sum-refuses cause handed is e = rw (is .0, is .1) (sum-refuses-by cause e)
+
+  pub sum-accepts : (next : Reel) → Held other → first (combinationCauses α β (scans r) (scans other)) ≡ none →
+      scans next ≡ combination α β (scans r) (scans other) → Filled (next .knots) (next .count) → Combines α β r other Answers.Accepted next
+  sum-accepts next held-other e is filled = record {
+    replies = sym (sum-replies α β (scans r) (scans other) e);
+    leaves = is ∙ sym (sum-leaves α β (scans r) (scans other) e);
+    held = record { filled = filled; standing = rw is (sum-standing α β (scans r) (scans other) e (held .standing) (held-other .standing)) };
+    refusalKeeps = λ n q. cc q;
+  }

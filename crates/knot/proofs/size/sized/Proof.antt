@@ -1,18 +1,19 @@
 -- `knot::size::sized` meets its contract. After j turns the first j coefficients are small, and power is h^j.
 use borrow.Author.Tests.{lt-leb, le-leb}
 use mathlib.Core.Bool.{true}
-use mathlib.Core.Path.{_≡_, refl, sym}
+use mathlib.Core.Path.{_≡_, refl, sym, _∙_, ap}
 use Prim.Native.Nat.{_-_, _^_, _≤_}
 use native.Mathlib.Nat.{pow-zero, pow-suc, lt-of-le-of-lt, mul-le-mul}
 use native.Mathlib.Numerals.{add-one}
 use native.Mathlib.Omega.{arith}
 use lib.Dec.{lit<}
-use lib.IntN.{pos, natAbs}
+use lib.IntN.{ℤ, pos, natAbs}
 use lib.ListN.{length, getD}
 use mir.Syntax.{w32}
-use mir.Facts.{toZ-ofZ}
+use mir.Val.{SFits}
+use mir.Facts.{toZ-ofZ, sfits-widen}
 use Rattle.integer.specs.Tests.{each}
-use Rattle.integer.proofs.Within.{fits-within, size-within}
+use Rattle.integer.proofs.Within.{fits-within, wide-is, size-within}
 use Rattle.integer.proofs.Tests.{both, each-fails}
 use Rattle.rounding.specs.Size.{small, sized}
 use Rattle.rounding.proofs.Bounds.{power-small}
@@ -34,18 +35,26 @@ mul-magnitude c = omega arith
 shared-slice-copy-out-magnitude : tie.Need-shared-slice-copy-out-magnitude Inv-loop μ-loop
 shared-slice-copy-out-magnitude c = omega arith
 
+-- the coefficient that is looked at
+module _ (t : tie.After-magnitude-arg Inv-loop μ-loop) where
+  abbrev this : ℤ
+  this = getD (t .before .before .before .args .c .now) (t .before .before .loop .j) (pos 0)
+
+  fits : SFits w32 this
+  fits = record { sfits = t .magnitude-arg .given }
+
+cast-magnitude : tie.Need-cast-magnitude Inv-loop μ-loop
+cast-magnitude c = rw (toZ-ofZ (fits c)) (sfits-widen tt (fits c))
+
 magnitude-requires : tie.Need-magnitude-requires Inv-loop μ-loop
 magnitude-requires c κs = tt
 
 module _ (c : tie.After-magnitude Inv-loop μ-loop) where
-  size-is : let l = c .before .before .before in c .magnitude .result ≡ natAbs (getD (l .before .args .c .now) (l .loop .j) (pos 0))
-  size-is = rw (toZ-ofZ (record { sfits = c .before .magnitude-arg .given })) at (c .magnitude .ensures)
+  size-is : c .magnitude .result ≡ natAbs (this (c .before))
+  size-is = c .magnitude .ensures ∙ ap natAbs (wide-is (this (c .before)) (fits (c .before)))
 
   size-small : c .magnitude .result ≤ 2 ^ 31
-  size-small =
-      let l = c .before .before .before in
-      let C = getD (l .before .args .c .now) (l .loop .j) (pos 0) in
-      rw size-is (size-within C (fits-within w32 C (record { sfits = c .before .magnitude-arg .given })))
+  size-small = rw size-is (size-within (this (c .before)) (fits-within w32 (this (c .before)) (fits (c .before))))
 
   this-power : c .before .before .before .loop .power ≤ 2 ^ 28
   this-power = let l = c .before .before .before in rw (l .loop .inv .1) (power-small (l .before .args .h) (l .loop .j) (omega arith) (omega arith))
@@ -90,6 +99,7 @@ sized-spec =
     loop-holds
     mul-magnitude
     shared-slice-copy-out-magnitude
+    cast-magnitude
     magnitude-requires
     mul-if1
     returns

@@ -39,12 +39,20 @@ returns-11 : tie.Need-returns-11
 returns-11 c = search needs
 
 returns-12 : tie.Need-returns-12
-returns-12 c =
+returns-12 c = search needs
+
+returns-13 : tie.Need-returns-13
+returns-13 c = search needs
+
+returns-14 : tie.Need-returns-14
+returns-14 c =
     let r = c .match .rest in
-    let low = r .0 .0 .0 .0 .0 in
+    let high = r .0 .0 .0 .0 .0 in
+    let low = high .0 .0 in
     let above : 7 ≤ c .before .args .n =
     omega (arith, c .before .pre .0, low .0 .0 .0 .0 .0 .1, low .0 .0 .0 .0 .1, low .0 .0 .0 .1, low .0 .0 .1, low .0 .1, low .1) in
-    omega (arith, above, c .before .pre .1, r .0 .0 .0 .0 .1, r .0 .0 .0 .1, r .0 .0 .1, r .0 .1, r .1)
+    let further : 9 ≤ c .before .args .n = omega (arith, above, high .0 .1, high .1) in
+    omega (arith, further, c .before .pre .1, r .0 .0 .0 .0 .1, r .0 .0 .0 .1, r .0 .0 .1, r .0 .1, r .1)
 
 pub numbered-spec : {M : Type 1} → statement M
 numbered-spec =
@@ -61,4 +69,6 @@ numbered-spec =
     returns-9
     returns-10
     returns-11
-    returns-12)
+    returns-12
+    returns-13
+    returns-14)

@@ -1,4 +1,4 @@
--- `text::number::magnitude` meets its contract: below 0, -1 - z is one less than the magnitude, and fits.
+-- `magnitude::size::magnitude` meets its contract: below 0, -1 - z is one less than the magnitude, and fits.
 use borrow.Author.Tests.{le-ltb, ltb-true}
 use mathlib.Core.Bool.{true, false, true≢false}
 use mathlib.Core.Path.{_≡_, refl}
@@ -10,8 +10,8 @@ use lib.Signed.{ltZ, nonNeg}
 use mir.Syntax.{w64}
 use mir.Val.{SFits, toZ, ofZ}
 use mir.Facts.{toZ-ofZ, fits-natAbs}
-use Rattle.text.proofs.number.magnitude.Statement.{statement}
-use Rattle.text.proofs.number.magnitude.Tie as tie
+use Rattle.magnitude.proofs.size.magnitude.Statement.{statement}
+use Rattle.magnitude.proofs.size.magnitude.Tie as tie
 
 from-minus-one : (z : ℤ) → ltZ z (pos 0) ≡ true → negsuc 0 -ℤ z ≡ pos (natAbs z - 1)
 from-minus-one (pos n) e = absurd (omega (arith, ltb-true n 0 e))
@@ -42,7 +42,7 @@ cast-result : tie.Need-cast-result
 cast-result c = rw (less-one c, toZ-ofZ (fits c)) (tt, fits-natAbs tt (fits c))
 
 add-result : tie.Need-add-result
-add-result c = rw (less-one c, toZ-ofZ (fits c), smaller (c .before .args .z) (below c) (c .before .fits .z) .1) (fits-natAbs tt (c .before .fits .z))
+add-result c = rw (less-one c, toZ-ofZ (fits c)) (record { fits = omega (arith, fits c .sfits) })
 
 cast-result-2 : tie.Need-cast-result-2
 cast-result-2 c =

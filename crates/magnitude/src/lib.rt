@@ -1,0 +1,4 @@
+// The size of a number with a sign.
+mod size;
+
+pub use size::magnitude;
