@@ -16,7 +16,7 @@ use Rattle.scans.specs.Combination.{combination}
 use Rattle.scans.specs.Pieces.{mark}
 use Rattle.scans.specs.Queries.{valuePiece, valueAt}
 use Rattle.scans.proofs.Order.{few-query, in-reel}
-use Rattle.scans.proofs.Combination.{counts, positions, count-is, position-is, combined, accepted-aligned}
+use Rattle.scans.proofs.Combination.{counts, positions, count-is, position-is, combination-laws, accepted-aligned}
 use Rattle.calls.specs.Calls.{accepted, number, refused, answered, value, causes, replyTo}
 use Rattle.calls.specs.Combination.{sumReply, sumScans, SumValues}
 use Rattle.calls.proofs.Effects.{answer-is, number-quiet, acceptance-replies}
@@ -87,6 +87,6 @@ module _ (α β : ℤ) (A B : List Scan) (st : Standing A) (quiet : first (combi
           w = valueAt C x;
           otherIs = acceptance-replies (value x) B (its-refusal ∙ a .0);
           sumIs = acceptance-replies (value x) C (sum-refusal ∙ a .0);
-          distance = rw (← is) (combined A B (accepted-aligned α β A B quiet) α β st .values x (in-reel A x (a .0)));
+          distance = rw (← is) (combination-laws α β A B st (accepted-aligned α β A B quiet) .values x (in-reel A x (a .0)));
         };
   }

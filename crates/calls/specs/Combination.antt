@@ -20,8 +20,8 @@ sumReply α β A B = answered (first (combinationCauses α β A B)) accepted
 unfoldable pub sumScans : ℤ → ℤ → List Scan → List Scan → List Scan
 sumScans α β A B = kept (first (combinationCauses α β A B)) A (combination α β A B)
 
--- what the call value answers at one position in the reels of A, of B and of their sum: the same refusal, or three
--- numbers of which that of the sum differs from αv + βv' by less than (1+|α|+|β|) × 2(m+n+1)
+-- where value answers v in the reel of A: it answers v' in that of B and w in that of the sum, and w differs from
+-- αv + βv' by less than (1+|α|+|β|) × 2(m+n+1)
 pub record SumNumbers (α β : ℤ) (P : Piece) (v : ℤ) (other sum : Reply) : Type 0 where
   pub v' : ℤ
   pub w : ℤ
@@ -29,6 +29,7 @@ pub record SumNumbers (α β : ℤ) (P : Piece) (v : ℤ) (other sum : Reply) : 
   pub sumIs : sum ≡ number w
   pub distance : CombinedDistance α β P v v' w
 
+-- what value answers at one position in the reels of A, of B and of their sum: the same refusal, or three such numbers
 pub record SumValues (α β : ℤ) (P : Piece) (one other sum : Reply) : Type 0 where
   pub refusals : (n : ℕ) → one ≡ refused n → (other ≡ refused n) × (sum ≡ refused n)
   pub numbers : (v : ℤ) → one ≡ number v → SumNumbers α β P v other sum

@@ -76,10 +76,10 @@ pub fn loaded(reel: Reel, line: &[u8], at: usize) -> Block
 }
 
 // The reels of two blocks; and whether they are the last fields of the line, and read accepts both.
-pub struct Pair {
-    pub one: Reel,
-    pub other: Reel,
-    pub readable: bool,
+struct Pair {
+    one: Reel,
+    other: Reel,
+    readable: bool,
 }
 
 fn accepted(answer: Answer) -> bool {
@@ -91,7 +91,7 @@ fn accepted(answer: Answer) -> bool {
 }
 
 // `HEX HEX`, apart from the reel of the script.
-pub fn loaded_pair(reel: Reel, line: &[u8], at: usize) -> Pair
+fn loaded_pair(reel: Reel, line: &[u8], at: usize) -> Pair
     requires { ⌜ Held reel ⌝ }
     ensures { λ r. ⌜ (Held (r .one)) × (Held (r .other)) ⌝ }
 {

@@ -26,13 +26,13 @@ use Rattle.scans.specs.Queries.{valuePiece, valueAt, totalOver}
 use Rattle.scans.specs.RefusalTable.{first}
 use Rattle.scans.specs.Order.{combinationCauses}
 use Rattle.scans.specs.Combination.{aligned, allAligned, combinedScan, combination}
-use Rattle.scans.specs.Combined.{Combined}
+use Rattle.scans.specs.Combined.{Combined, CombinationLaws}
 use Rattle.scans.proofs.Lists.{there}
 use Rattle.scans.proofs.Causes.{Placed}
 use Rattle.scans.proofs.Order.{sum-free}
 use Rattle.scans.proofs.Standing.{size-follows}
 use Rattle.scans.proofs.Pieces.{piece-admitted, value-lies}
-use Rattle.scans.proofs.Sums.{sum-combines}
+use Rattle.scans.proofs.Sums.{sumFrom-combines}
 
 -- ---- place by place
 
@@ -109,7 +109,7 @@ module _ (A B : List Scan) (alike : allAligned A B ≡ true) where
 
     totals-combine : (i j : ℕ) → i ≤ j → j < length A → totalOver C i j ≡ α *ℤ totalOver A i j +ℤ β *ℤ totalOver B i j
     unfolding totalOver
-    totals-combine i j order last = sum-combines α β (λ k. total (pieceOf A k)) (λ k. total (pieceOf B k)) (λ k. total (pieceOf C k)) i (j - i) one
+    totals-combine i j order last = sumFrom-combines α β (λ k. total (pieceOf A k)) (λ k. total (pieceOf B k)) (λ k. total (pieceOf C k)) i (j - i) one
       where
         one : (k : ℕ) → i ≤ k → k < i + (j - i) → total (pieceOf C k) ≡ α *ℤ total (pieceOf A k) +ℤ β *ℤ total (pieceOf B k)
         one k l b =
@@ -131,7 +131,7 @@ module _ (A B : List Scan) (alike : allAligned A B ≡ true) where
         (value-combines α β (pieceOf A k) (pieceOf B k) (same-gap k h) (same-left k h) (same-right k h) r
         (piece-admitted A st k h .gapAtLeast) (lies .within)))
 
-    pub combined : Standing A → Combined α β A B C
+    combined : Standing A → Combined α β A B C
     combined st = record {
       blends = λ k i h. rw (piece-is k h) (coefficients-combine α β (pieceOf A k) (pieceOf B k) (same-gap k h) (same-left k h) (same-right k h) i);
       totals = totals-combine;
@@ -177,6 +177,9 @@ module _ (A B : List Scan) (alike : allAligned A B ≡ true) where
       gapAtMost = λ k h. rw (gap-is k (omega (arith, count-is))) (st .gapAtMost k (omega (arith, count-is)));
       size = size-follows C (each-at (length C) (λ k. follows (before C k) (at C k)) each);
     }
+
+pub combination-laws : CombinationLaws
+combination-laws α β A B st alike = combined A B alike α β st
 
 -- ---- where no cause refuses the sum
 

@@ -19,11 +19,11 @@ sum-within f B i zero each = within-more (omega arith) (within-natural 0)
 sum-within f B i (suc c) each =
     within-more (omega arith) (within-add _ _ (sum-within f B i c (λ k h b. each k h (omega arith))) (each (i + c) (omega arith) (omega arith)))
 
-pub sum-combines : (α β : ℤ) (f g h : ℕ → ℤ) (i c : ℕ) → ((k : ℕ) → i ≤ k → k < i + c → h k ≡ α *ℤ f k +ℤ β *ℤ g k) →
+pub sumFrom-combines : (α β : ℤ) (f g h : ℕ → ℤ) (i c : ℕ) → ((k : ℕ) → i ≤ k → k < i + c → h k ≡ α *ℤ f k +ℤ β *ℤ g k) →
     sumFrom h i c ≡ α *ℤ sumFrom f i c +ℤ β *ℤ sumFrom g i c
 unfolding sumFrom
-sum-combines α β f g h i zero each = rw (*ℤ-zero α, *ℤ-zero β) refl
-sum-combines α β f g h i (suc c) each =
-    ap₂ (λ x y. x +ℤ y) (sum-combines α β f g h i c (λ k l b. each k l (omega arith))) (each (i + c) (omega arith) (omega arith)) ∙
+sumFrom-combines α β f g h i zero each = rw (*ℤ-zero α, *ℤ-zero β) refl
+sumFrom-combines α β f g h i (suc c) each =
+    ap₂ (λ x y. x +ℤ y) (sumFrom-combines α β f g h i c (λ k l b. each k l (omega arith))) (each (i + c) (omega arith) (omega arith)) ∙
     +ℤ-interchange (α *ℤ sumFrom f i c) (β *ℤ sumFrom g i c) (α *ℤ f (i + c)) (β *ℤ g (i + c)) ∙
     sym (ap₂ (λ x y. x +ℤ y) (*ℤ-distrib α (sumFrom f i c) (f (i + c))) (*ℤ-distrib β (sumFrom g i c) (g (i + c))))

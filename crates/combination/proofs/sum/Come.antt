@@ -59,7 +59,7 @@ module _ (α β : ℤ) (given others : List Knot) (count : ℕ) where
   B = scansIn count others
 
   -- the sum
-  abbrev pub C : List Scan
+  abbrev C : List Scan
   C = combination α β A B
 
   abbrev pub following : ℕ → Bool
@@ -86,7 +86,7 @@ module _ (α β : ℤ) (given others : List Knot) (count : ℕ) where
     length-A : length A ≡ count
     length-A = length-scans given count room-given
 
-    pub length-C : length C ≡ count
+    length-C : length C ≡ count
     length-C = count-is A B (can .aligned) α β ∙ length-A
 
     -- ---- knot k of the sum
@@ -97,7 +97,7 @@ module _ (α β : ℤ) (given others : List Knot) (count : ℕ) where
           scan-is A B (can .aligned) α β k (omega (arith, length-A)) ∙
           ap₂ (combinedScan α β) (at-scans given count room-given k h) (at-scans others count room-others k h)
 
-      pub placed : Placed (before C k) (at C k .position)
+      placed : Placed (before C k) (at C k .position)
       placed = placed-is A B (can .aligned) α β (can .standing) k (omega (arith, length-A))
 
       pub same-grade : knotIn given k .grade ≡ knotIn others k .grade
@@ -130,7 +130,7 @@ module _ (α β : ℤ) (given others : List Knot) (count : ℕ) where
 
     module _ (knots : List Knot) (last : Neighbour) (k : ℕ) (come : Come knots last k) (h : k < count) (next : Knot)
         (holds : Holds next (limitedScan (combinedScan α β (scan (knotIn knots k)) (scan (knotIn others k))))) where
-      pub next-is : scan next ≡ limitedScan (at C k)
+      next-is : scan next ≡ limitedScan (at C k)
       next-is = holds .is ∙ ap limitedScan (ap (λ a. combinedScan α β (scan a) (scan (knotIn others k))) (come .rest k (omega arith)) ∙ sym (knot-is k h))
 
       -- the last knot lies at most 16 steps before it

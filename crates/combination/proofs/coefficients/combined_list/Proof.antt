@@ -78,14 +78,13 @@ new-is : (c : tie.After-coefficient Inv-loop μ-loop) → let l = c .before .bef
     toZ w32 (ofZ w32 (c .coefficient .result)) ≡
     limited (b .alpha *ℤ getD (b .t2) (l .loop .j) (pos 0) +ℤ b .beta *ℤ getD (b .t4) (l .loop .j) (pos 0))
 new-is c =
-    let l = c .before .before .before .before in
-    let b = l .before in
+    let b = c .before .before .before .before .before in
     toZ-ofZ (record { sfits = c .coefficient .ok }) ∙
     (rw (
       toZ-ofZ (b .fits .alpha),
       toZ-ofZ (b .fits .beta),
-      toZ-ofZ {z = getD (b .args .t2) (l .loop .j) (pos 0)} (record { sfits = c .before .before .coefficient-arg .given }),
-      toZ-ofZ {z = getD (b .args .t4) (l .loop .j) (pos 0)} (record { sfits = c .before .coefficient-arg2 .given }),
+      toZ-ofZ (record { sfits = c .before .before .coefficient-arg .given }),
+      toZ-ofZ (record { sfits = c .before .coefficient-arg2 .given }),
     ) at (c .coefficient .ensures))
 
 loop-again : tie.Need-loop-again Inv-loop μ-loop
