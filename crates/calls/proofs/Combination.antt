@@ -1,4 +1,4 @@
--- Request 4/14: what an accepted sum answers, and what value answers of it and of the two reels that were added.
+-- Request 4/14: what a sum answers and hands over, and what value answers of it and of the two reels that were added.
 use mathlib.Core.List.{List}
 use mathlib.Core.Option.{Option, none, some}
 use mathlib.Core.Path.{_≡_, refl, sym, _∙_, ap}

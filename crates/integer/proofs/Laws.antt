@@ -57,3 +57,15 @@ one-*ℤ x = *ℤ-comm one x ∙ *ℤ-one x
 -- a summand moved to the other side
 pub moved : (x y z : ℤ) → x +ℤ y ≡ z → x ≡ z -ℤ y
 moved x y z e = sym (+ℤ-negℤ-cancel x y) ∙ ap (λ u. u -ℤ y) e
+
+-- ---- combinations α x + β y: multiplied from either side, and added
+
+pub combination-times : (α β x y z : ℤ) → (α *ℤ x +ℤ β *ℤ y) *ℤ z ≡ α *ℤ (x *ℤ z) +ℤ β *ℤ (y *ℤ z)
+combination-times α β x y z = *ℤ-distrib-right (α *ℤ x) (β *ℤ y) z ∙ ap₂ (λ a b. a +ℤ b) (*ℤ-assoc α x z) (*ℤ-assoc β y z)
+
+pub times-combination : (z α β x y : ℤ) → z *ℤ (α *ℤ x +ℤ β *ℤ y) ≡ α *ℤ (z *ℤ x) +ℤ β *ℤ (z *ℤ y)
+times-combination z α β x y = *ℤ-distrib z (α *ℤ x) (β *ℤ y) ∙ ap₂ (λ a b. a +ℤ b) (*ℤ-left-comm z α x) (*ℤ-left-comm z β y)
+
+pub combinations-add : (α β a b c d : ℤ) → (α *ℤ a +ℤ β *ℤ b) +ℤ (α *ℤ c +ℤ β *ℤ d) ≡ α *ℤ (a +ℤ c) +ℤ β *ℤ (b +ℤ d)
+combinations-add α β a b c d =
+    +ℤ-interchange (α *ℤ a) (β *ℤ b) (α *ℤ c) (β *ℤ d) ∙ sym (ap₂ (λ x y. x +ℤ y) (*ℤ-distrib α a c) (*ℤ-distrib β b d))

@@ -6,7 +6,7 @@ use native.Mathlib.Omega.{arith}
 use native.Mathlib.Decide.{ℕ-discrete}
 use lib.IntN.{ℤ, pos, _+ℤ_, _*ℤ_, +ℤ-idl, +ℤ-idr, +ℤ-assoc}
 use Rattle.integer.specs.Sum.{sum}
-use Rattle.integer.proofs.Laws.{+ℤ-interchange, *ℤ-distrib, *ℤ-distrib-right, *ℤ-assoc}
+use Rattle.integer.proofs.Laws.{+ℤ-interchange, *ℤ-distrib, combination-times}
 
 pub sum-cong : (m : ℕ) (f h : ℕ → ℤ) → ((j : ℕ) → j ≤ m → f j ≡ h j) → sum m f ≡ sum m h
 unfolding sum
@@ -31,9 +31,7 @@ sum-combines m α β f g h b is =
     ap₂ (λ x y. x +ℤ y) (sum-* m α (λ j. f j *ℤ b j)) (sum-* m β (λ j. g j *ℤ b j))
   where
     parted : (j : ℕ) → h j *ℤ b j ≡ α *ℤ (f j *ℤ b j) +ℤ β *ℤ (g j *ℤ b j)
-    parted j =
-        ap (λ x. x *ℤ b j) (is j) ∙ *ℤ-distrib-right (α *ℤ f j) (β *ℤ g j) (b j) ∙
-        ap₂ (λ x y. x +ℤ y) (*ℤ-assoc α (f j) (b j)) (*ℤ-assoc β (g j) (b j))
+    parted j = ap (λ x. x *ℤ b j) (is j) ∙ combination-times α β (f j) (g j) (b j)
 
 pub sum-0 : (m : ℕ) (f : ℕ → ℤ) → ((j : ℕ) → j ≤ m → f j ≡ pos 0) → sum m f ≡ pos 0
 unfolding sum

@@ -7,7 +7,7 @@ use native.Mathlib.Nat.{mul-le-mul-left, lt-of-mul-lt-mul-right}
 use native.Mathlib.Omega.{arith}
 use lib.IntN.{ℤ, pos, natAbs, _+ℤ_, _-ℤ_, _*ℤ_}
 use lib.ListN.{length}
-use Rattle.integer.proofs.Laws.{*ℤ-distrib-right, *ℤ-assoc}
+use Rattle.integer.proofs.Laws.{combination-times, times-combination}
 use Rattle.integer.proofs.Ring.{lets, solve, terms}
 use Rattle.integer.proofs.Within.{within-add, within-mul, within-neg, within-size, size-within, size-times, size-below}
 use Rattle.hermite.specs.Polynomial.{Polynomial, _⊕_, _⊙_, coefficient, at}
@@ -34,8 +34,7 @@ combined-coefficient α β A B j =
 
 weight-combines : (α β : ℤ) (h : ℕ) (A B : List ℤ) (j : ℕ) → weight h (α ⊙ A ⊕ β ⊙ B) j ≡ α *ℤ weight h A j +ℤ β *ℤ weight h B j
 weight-combines α β h A B j =
-    ap (λ x. x *ℤ pos (h ^ j)) (combined-coefficient α β A B j) ∙ *ℤ-distrib-right (α *ℤ coefficient A j) (β *ℤ coefficient B j) (pos (h ^ j)) ∙
-    ap₂ (λ x y. x +ℤ y) (*ℤ-assoc α (coefficient A j) (pos (h ^ j))) (*ℤ-assoc β (coefficient B j) (pos (h ^ j)))
+    ap (λ x. x *ℤ pos (h ^ j)) (combined-coefficient α β A B j) ∙ combination-times α β (coefficient A j) (coefficient B j) (pos (h ^ j))
 
 -- ---- two pieces of one length and one pair of grades
 
@@ -88,11 +87,8 @@ module _ (α β : ℤ) (P Q : Piece) (same-h : Q .h ≡ P .h) (same-m : m Q ≡ 
   total-combines =
       rw (grade-left, grade-right, same-m, same-n)
       (ap (λ x. pos (P .h) *ℤ x) (weightedSum-combines α β (p P) (q P) (p Q) (q Q) (p R) (q R) left-weights right-weights (m P) (n P)) ∙
-      shared (pos (P .h)) (weightedSum (m P) (n P) (p P) (q P)) (weightedSum (m P) (n P) (p Q) (q Q)) ∙
+      times-combination (pos (P .h)) α β (weightedSum (m P) (n P) (p P) (q P)) (weightedSum (m P) (n P) (p Q) (q Q)) ∙
       ap (λ h. α *ℤ total P +ℤ β *ℤ (pos h *ℤ weightedSum (m P) (n P) (p Q) (q Q))) (sym same-h))
-    where
-      shared : (h x y : ℤ) → h *ℤ (α *ℤ x +ℤ β *ℤ y) ≡ α *ℤ (h *ℤ x) +ℤ β *ℤ (h *ℤ y)
-      shared h x y = lets (α ∷ β ∷ h ∷ x ∷ y ∷ []) (λ ρ z. simp (z 0, z 1, z 2, z 3, z 4, terms) (solve ρ _ _ tt))
 
   module _ (r : ℕ) (long : 0 < P .h) (within : r ≤ D P) where
     abbrev T : ℕ

@@ -1,10 +1,10 @@
 -- A sum over pieces: it depends on those pieces only, c numbers within B add up to one within c × B, and it is linear.
-use mathlib.Core.Path.{_≡_, refl, sym, _∙_, ap₂}
+use mathlib.Core.Path.{_≡_, refl, _∙_, ap₂}
 use Prim.Native.Nat.{ℕ, zero, suc, _+_, _*_, _≤_, _<_}
 use native.Mathlib.Omega.{arith}
 use lib.IntN.{ℤ, _+ℤ_, _*ℤ_, *ℤ-zero}
 use Rattle.integer.specs.Within.{Within}
-use Rattle.integer.proofs.Laws.{+ℤ-interchange, *ℤ-distrib}
+use Rattle.integer.proofs.Laws.{combinations-add}
 use Rattle.integer.proofs.Within.{within-more, within-add, within-natural}
 use Rattle.scans.specs.Queries.{sumFrom}
 
@@ -25,5 +25,4 @@ unfolding sumFrom
 sumFrom-combines α β f g h i zero each = rw (*ℤ-zero α, *ℤ-zero β) refl
 sumFrom-combines α β f g h i (suc c) each =
     ap₂ (λ x y. x +ℤ y) (sumFrom-combines α β f g h i c (λ k l b. each k l (omega arith))) (each (i + c) (omega arith) (omega arith)) ∙
-    +ℤ-interchange (α *ℤ sumFrom f i c) (β *ℤ sumFrom g i c) (α *ℤ f (i + c)) (β *ℤ g (i + c)) ∙
-    sym (ap₂ (λ x y. x +ℤ y) (*ℤ-distrib α (sumFrom f i c) (f (i + c))) (*ℤ-distrib β (sumFrom g i c) (g (i + c))))
+    combinations-add α β (sumFrom f i c) (sumFrom g i c) (f (i + c)) (g (i + c))

@@ -43,13 +43,9 @@ pub size-kept : (kept : Bool) → first (badSize kept ∷ []) ≡ none → kept 
 size-kept true e = refl
 size-kept false e = absurd (Option·some-ne-none _ e)
 
-pub size-failed : {n : ℕ} (kept : Bool) → first (badSize kept ∷ []) ≡ some n → kept ≡ false
+pub size-failed : {n : ℕ} (kept : Bool) → first (badSize kept ∷ []) ≡ some n → (kept ≡ false) × (some n ≡ some 6)
 size-failed true e = absurd (Option·some-ne-none _ (sym e))
-size-failed false e = refl
-
-pub refused-is : {n : ℕ} (kept : Bool) → first (badSize kept ∷ []) ≡ some n → some n ≡ some 6
-refused-is true e = absurd (Option·some-ne-none _ (sym e))
-refused-is false e = sym e
+size-failed false e = (refl, sym e)
 
 module _ (α β : ℤ) (given others : List Knot) (count : ℕ) where
   abbrev A : List Scan

@@ -14,7 +14,7 @@ use Rattle.scans.specs.Combination.{combinedScan}
 use Rattle.knot.specs.Machine.{scan, Holds, knotIn, refusal}
 use Rattle.combination.specs.Machine.{limitedScan}
 use Rattle.combination.proofs.sum.Come.{Come, following, none-yet, same-grade, close, verdict-is, one-more, fails, ends}
-use Rattle.combination.proofs.sum.Come.{size-failed, size-kept, refused-is}
+use Rattle.combination.proofs.sum.Come.{size-failed, size-kept}
 use Rattle.combination.proofs.sum.summed.Statement.{statement}
 use Rattle.combination.proofs.sum.summed.Tie as tie
 
@@ -102,8 +102,8 @@ returns : tie.Need-returns Inv-loop μ-loop
 returns c =
     let t = c .before .before .before in
     let k = t .before in
-    let refused = sym (found t) ∙ ap refusal (c .before .cause .given .1) in
-    fails (b k .args .alpha) (b k .args .beta) _ _ _ (b k .pre) _ (l k .loop .k) (in-list k) (size-failed (this k) refused) (refused-is (this k) refused)
+    let failed = size-failed (this k) (sym (found t) ∙ ap refusal (c .before .cause .given .1)) in
+    fails (b k .args .alpha) (b k .args .beta) _ _ _ (b k .pre) _ (l k .loop .k) (in-list k) (failed .0) (failed .1)
 
 enum-told : tie.Need-enum-told Inv-loop μ-loop
 enum-told c = search needs
