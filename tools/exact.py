@@ -1,5 +1,6 @@
 #!/usr/bin/env python3
-"""Document 01 in exact fractions, with requests 1/14, 3/14 and 4/14 of document 02: what the engine's numbers are held against.
+"""Document 01 in exact fractions, with requests 1/14, 3/14, 4/14 and 5/14 of document 02: what the engine's numbers are held
+against.
 
 Written from the documents, in their letters, and not from the Rattle text: the blend is formula (1)
 multiplied out, the derivative comes by differentiating it and the total by integrating it. Every case
@@ -15,11 +16,13 @@ files that `vectors` makes. The documents stand in document/, what the stored fi
                     lines and those that begin with # are none; where a knot has readings, the block is of edition 2
   exact.py unpack   a block to its text
   exact.py check    hold all entries of "Scans with known results", the integral weights of source document
-                    001, and a sweep over all grades and gaps; then the worked block, its report and its text,
-                    the stored reports; of blocks by chance, text and bytes with readings, that the operator's
-                    answers skip these, and the views; of sums of reels, over all grades and gaps, the blends,
-                    totals and values; and the replay script, with the reel's round trip after every call and
-                    that of every block it accepts
+                    001, what the distances need, halves, and a sweep over all grades and gaps; then the worked
+                    block, its report and its text, the stored reports; of blocks by chance, text and bytes with
+                    readings, that the operator's answers skip these, and the views; of sums of reels, over all
+                    grades and gaps, the blends, totals and values; and the replay script, with the reel's round
+                    trip after every call and that of every block it accepts
+  exact.py averages the mean errors of values and trends at many places: every rounding down, they lean; to nearest,
+                    as request 5/14 has it, no more is left than halves up bring
 """
 import sys
 
@@ -28,6 +31,7 @@ sys.dont_write_bytecode = True  # before the other imports, so that they leave n
 from collections import Counter
 from pathlib import Path
 
+from document.averages import mean_errors
 from document.block import block_of, contents_of, packed
 from document.combination import hold_combinations
 from document.hold import Broken
@@ -36,7 +40,7 @@ from document.known_results import WORKED, hold_known_refusals, hold_known_resul
 from document.piece import case
 from document.readings import hold_readings
 from document.report import report_of
-from document.sweep import hold_ends_of_bounds, hold_integral_weights, hold_sweep
+from document.sweep import hold_halves, hold_integral_weights, hold_need_of_distances, hold_sweep
 from document.text import Unreadable, contents_of_text, text_of
 from document.texts import hold_texts
 from stored.replay_lines import kind_of_answer
@@ -98,7 +102,8 @@ def unpack():
 def check():
     entries = hold_known_results() + hold_known_refusals()
     hold_integral_weights()
-    hold_ends_of_bounds()
+    hold_need_of_distances()
+    hold_halves()
     cases = hold_sweep()
     print(f"{entries} entries of \"Scans with known results\" held; {cases} further cases within their distances")
     hold_worked_report()
@@ -110,7 +115,16 @@ def check():
     print(f"the worked block held; {len(script.answers)} calls of the replay script answered, {script.round_trips} round trips held")
 
 
-COMMANDS = {"check": check, "vectors": vectors, "replay": replay, "reports": reports, "pack": pack, "unpack": unpack}
+def averages():
+    print("65,536 × the exact blend − v, and 65,536 × the exact derivative − h × z, on the average; above 0, v and z are too low:")
+    print(f"{'':40} {'number':>7} {'down':>8} {'nearest':>8}")
+    for where, what, number, down, near in mean_errors():
+        print(f"{where + ', ' + what:40} {number:7} {float(down):8.3f} {float(near):8.3f}")
+
+
+COMMANDS = {
+    "check": check, "vectors": vectors, "replay": replay, "reports": reports, "averages": averages, "pack": pack, "unpack": unpack,
+}
 
 
 def main(words):

@@ -1,11 +1,11 @@
-"""Sum and difference of reels (request 4/14): the call, and what the request says of blends, totals and values."""
+"""Sum and difference of reels (request 4/14): the call, and what the request says of blends and totals, and 5/14 of values."""
 import random
 from functools import cache
 
 from document.coefficients import extreme, ordinary
 from document.hold import hold
 from document.knot import GAP_MAX, GRADE_MAX, keeps_size_rule
-from document.piece import UNIT_OF_POSITION, value
+from document.piece import UNIT_OF_POSITION, value, value_distance
 from document.reel import Reel
 
 MULTIPLIER_MAX = 16
@@ -74,16 +74,16 @@ def hold_added(alpha, beta, i, j, reel, other, combined):
 
 
 def difference_of_values(alpha, beta, x, reel, other, combined):
-    """What the sum's value at x differs by from αv + βv', and 2(m+n+1) of the piece that it is taken from."""
+    """What the sum's value at x differs by from αv + βv', and m+n+1 of the piece that it is taken from."""
     v, w, of_sum = (value(*each.place(x)) for each in (reel, other, combined))
     piece, _ = combined.place(x)
-    return of_sum - (alpha * v + beta * w), 2 * (piece.m + piece.n + 1)
+    return of_sum - (alpha * v + beta * w), value_distance(piece.m, piece.n)
 
 
 def hold_near(alpha, beta, x, reel, other, combined):
-    """The sum's value at x differs from αv + βv' by less than (1+|α|+|β|) × 2(m+n+1)."""
+    """The sum's value at x differs from αv + βv' by at most (1+|α|+|β|)(m+n+1): half of what 4/14 says, by 5/14."""
     difference, distance = difference_of_values(alpha, beta, x, reel, other, combined)
-    near = abs(difference) < (1 + abs(alpha) + abs(beta)) * distance
+    near = abs(difference) <= (1 + abs(alpha) + abs(beta)) * distance
     hold(near, "the value at", x, "of", alpha, beta, reel.knots, other.knots, "differs by", difference)
 
 
@@ -112,16 +112,21 @@ def hold_combined(alpha, beta, knots, others):
 # ---- over all grades and gaps
 
 
+# Knots of grades 0 and 0 whose values at 1/256 lie 14/15 below the exact blend and 14/15 above it.
+BELOW, ABOVE = [(0, (8,)), (15, (7,))], [(0, (7,)), (15, (8,))]
+
+
 def hold_need_of_bound():
-    """At grades 0 and 0, each with a difference that a lesser factor than 1+|α|+|β| would not allow: one without the 1,
-    one with |α| or |β| alone."""
-    flat, rising = [(0, (1,)), (3, (1,))], [(0, (1,)), (15, (14,))]
-    for alpha, beta, knots, found, lesser in ((-1, 0, flat, -2, 1), (-16, -16, rising, -60, 17)):
-        reel = Reel(knots)
-        combined = Reel(combination(alpha, beta, reel, reel))
-        difference, distance = difference_of_values(alpha, beta, 1, reel, reel, combined)
-        hold((difference, distance) == (found, 2), "the value of", alpha, beta, knots, "differs by", difference)
-        hold(abs(difference) >= lesser * distance, "a lesser factor does for", alpha, beta, knots)
+    """Differences at grades 0 and 0, where the bound is 1+|α|+|β|. With m+n in place of m+n+1 it would be 0, and without |α| or
+    without |β| it would be 17 where both are 16. Without the 1 it would be reached, at 14."""
+    reel = Reel(BELOW)
+    for alpha, beta, others, found in (
+        (1, 1, BELOW, 2), (14, 0, BELOW, 14), (7, -7, ABOVE, 14), (16, 16, BELOW, 30), (-16, -16, BELOW, -30), (-16, 16, ABOVE, -30),
+    ):
+        other = Reel(others)
+        combined = Reel(combination(alpha, beta, reel, other))
+        difference, distance = difference_of_values(alpha, beta, 1, reel, other, combined)
+        hold((difference, distance) == (found, 1), "the value of", alpha, beta, BELOW, others, "differs by", difference)
 
 
 def hold_exchanged(alpha, beta, reel, other):

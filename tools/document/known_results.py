@@ -7,11 +7,12 @@ from document.piece import Piece, case
 from document.reel import Reel
 from document.report import INPUT_MAX, report_of
 
-# The entries of "Scans with known results" that concern one piece: the piece, r, what is asked there and the answer.
+# The entries of "Scans with known results" that concern one piece: the piece, r, what is asked there and the answer. The
+# value 3 is request 5/14's.
 KNOWN_RESULTS = [
     (Piece(1, (0, 0), (1, 0)), 128, "value", 32_768),
     (Piece(1, (0, 0), (1, 0)), 128, "trend", 98_304),
-    (Piece(1, (0, 0), (1, 0)), 1, "value", 2),
+    (Piece(1, (0, 0), (1, 0)), 1, "value", 3),
     (Piece(1, (0, 0), (-1, 0)), 1, "value", -3),
     (Piece(2, (0, 0), (4, 0)), 256, "trend", 196_608),
     (Piece(1, (1,), (0,)), 0, "total", 360_360),

@@ -99,12 +99,17 @@ class Piece:
 # ---- the rounding steps
 
 
-def scaled(u, a, D):
-    """The greatest whole number not above u × a / D."""
-    return floor(Fraction(u * a, D))
+def nearest(x):
+    """The whole number nearest to x, halves up, also below 0 (request 5/14). Scaling and the division by h are rounded so."""
+    return floor(x + Fraction(1, 2))
 
 
-def half_sum(n, a, D, w):
+def scaled(u, a, D, rounded):
+    """u scaled by a/D."""
+    return rounded(Fraction(u * a, D))
+
+
+def half_sum(n, a, D, w, rounded):
     """Of grade m = len(w) − 1 against n, with fraction a/D; of grade −1 it is 0."""
     m = len(w) - 1
     if m < 0:
@@ -112,36 +117,36 @@ def half_sum(n, a, D, w):
     g = [sum(comb(n + i - j, i - j) * w[j] for j in range(i + 1)) for i in range(m + 1)]
     u = UNIT_OF_VALUE * g[m]
     for i in range(m - 1, -1, -1):
-        u = scaled(u, a, D) + UNIT_OF_VALUE * g[i]
+        u = scaled(u, a, D, rounded) + UNIT_OF_VALUE * g[i]
     for _ in range(n + 1):
-        u = scaled(u, D - a, D)
+        u = scaled(u, D - a, D, rounded)
     return u
 
 
 @cache
-def value(piece, r):
+def value(piece, r, rounded=nearest):
     m, n, D = piece.m, piece.n, piece.D
-    return half_sum(n, r, D, piece.left_weights()) + half_sum(m, D - r, D, piece.right_weights())
+    return half_sum(n, r, D, piece.left_weights(), rounded) + half_sum(m, D - r, D, piece.right_weights(), rounded)
 
 
 @cache
-def trend(piece, r):
+def trend(piece, r, rounded=nearest):
     m, n, D = piece.m, piece.n, piece.D
     left, right = piece.left_weights(), piece.right_weights()
 
     def primed(w):
         return [(j + 1) * w[j + 1] for j in range(len(w) - 1)]
 
-    y1 = half_sum(n, r, D, primed(left))
-    y2 = half_sum(m, D - r, D, primed(right))
+    y1 = half_sum(n, r, D, primed(left), rounded)
+    y2 = half_sum(m, D - r, D, primed(right), rounded)
     k = sum(right[j] * (m + n - j + 1) * comb(m + n - j, n - j) for j in range(n + 1))
     k -= sum(left[j] * (m + n - j + 1) * comb(m + n - j, m - j) for j in range(m + 1))
     y3 = UNIT_OF_VALUE * k
     for _ in range(m):
-        y3 = scaled(y3, r, D)
+        y3 = scaled(y3, r, D, rounded)
     for _ in range(n):
-        y3 = scaled(y3, D - r, D)
-    return floor(Fraction(y1 - y2 + y3, piece.h))
+        y3 = scaled(y3, D - r, D, rounded)
+    return rounded(Fraction(y1 - y2 + y3, piece.h))
 
 
 @cache
@@ -195,11 +200,17 @@ def trend_error(piece, r, z):
     return UNIT_OF_VALUE * at(derivative(piece.blend()), Fraction(r, piece.D)) - piece.h * z
 
 
+def value_distance(m, n):
+    """How far a value may lie from 65,536 × the exact blend, either way (request 5/14)."""
+    return m + n + 1
+
+
 @cache
 def hold_distances(piece, r):
+    """Those of value and trend, either way; of the trend, twice the distance is at most 3(m+n)+h (request 5/14)."""
     m, n, h = piece.m, piece.n, piece.h
-    hold(0 <= value_error(piece, r, value(piece, r)) < 2 * (m + n + 1), "distance of the value at", r, piece)
-    hold(-(m + n) <= trend_error(piece, r, trend(piece, r)) <= 2 * (m + n) + h - 1, "distance of the trend at", r, piece)
+    hold(abs(value_error(piece, r, value(piece, r))) <= value_distance(m, n), "distance of the value at", r, piece)
+    hold(2 * abs(trend_error(piece, r, trend(piece, r))) <= 3 * (m + n) + h, "distance of the trend at", r, piece)
 
 
 def case(piece, r):

@@ -1,4 +1,4 @@
-"""What is held of one piece over all grades and gaps: integral weights, distances and the ends of their bounds."""
+"""What is held of one piece over all grades and gaps: integral weights and distances; what the distances need, and halves."""
 import random
 from fractions import Fraction
 from math import factorial
@@ -24,12 +24,26 @@ def hold_integral_weights():
                 hold((printed == c) == (j < 2), "formula (9) at", m, n, j)
 
 
-def hold_ends_of_bounds():
-    """The ends that the distances include are reached: the value's by an exact value, the trend's at grades 0 and 0."""
-    even, odd = Piece(2, (0,), (2,)), Piece(3, (0,), (2,))
-    hold(value_error(even, 0, value(even, 0)) == 0, "the value's lower end")
-    hold(trend_error(even, 0, trend(even, 0)) == 0, "the trend's lower end")
-    hold(trend_error(odd, 0, trend(odd, 0)) == odd.h - 1, "the trend's upper end")
+def hold_need_of_distances():
+    """What lesser distances do not allow. At grades 0 and 0 a value is 14/15 below 65,536 × the blend or above it: m+n, which is
+    0, does not do. There, with a gap of 3, twice a trend's distance is 2: 3(m+n)+h−2, which is 1, does not do. At grades 1 and
+    1, with a gap of 4, m+n+h, which is 6, does not."""
+    for error, piece in ((Fraction(14, 15), Piece(15, (8,), (7,))), (Fraction(-14, 15), Piece(15, (7,), (8,)))):
+        hold(value_error(piece, 1, value(piece, 1)) == error, "the distance of the value at 1 of", piece)
+    for twice, piece in ((2, Piece(3, (0,), (1,))), (Fraction(13, 2), Piece(4, (0, 2), (0, -1)))):
+        hold(2 * abs(trend_error(piece, 1, trend(piece, 1))) == twice, "twice the distance of the trend at 1 of", piece)
+
+
+def hold_halves():
+    """A half goes up, above 0 and below: in the last scaling of a value at every gap, and, where no scaling rounds, in the
+    division by h at every even one."""
+    for sign in (1, -1):
+        for h in range(1, GAP_MAX + 1):
+            piece = Piece(h, (sign * 128 * h**3,), (0, 0, 0))
+            hold(value_error(piece, piece.D - 1, value(piece, piece.D - 1)) == Fraction(-1, 2), "a half in the value of", piece)
+        for h in range(2, GAP_MAX + 1, 2):
+            piece = Piece(h, (0, 0, 0), (sign * h // 2,))
+            hold(trend_error(piece, h, trend(piece, h)) == Fraction(-h, 2), "a half in the trend of", piece)
 
 
 def hold_sweep():

@@ -20,6 +20,10 @@ from stored.parts.readings import (
     bits_of_readings, causes_of_views, chosen_knots, forms_of_views, full_blocks, operators_answers, products,
     readings_by_chance_tried, readings_of_every_count, strides_and_indices,
 )
+from stored.parts.rounding import (
+    many_roundings, rounded_sums, trends_at_halves, trends_beside_halves, trends_with_halves_within, values_at_halves,
+    values_beside_halves, values_with_halves_within,
+)
 from stored.replay_lines import answers_to
 from stored.transcript import Transcript
 
@@ -73,6 +77,14 @@ PARTS = [
     values_of_sums,
     full_combinations,
     combinations_by_chance,
+    values_at_halves,
+    values_beside_halves,
+    values_with_halves_within,
+    trends_at_halves,
+    trends_beside_halves,
+    trends_with_halves_within,
+    rounded_sums,
+    many_roundings,
     the_last_line,
 ]
 

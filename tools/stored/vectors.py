@@ -5,6 +5,8 @@ from document.coefficients import extreme, greatest, ordinary
 from document.knot import GAP_MAX, GRADE_MAX
 from document.known_results import KNOWN_RESULTS
 from document.piece import Piece
+from document.reel import Reel
+from stored.halves import halves_of_trends, halves_of_values
 
 
 def pieces(chance, m, n, h, sign):
@@ -16,11 +18,9 @@ def pieces(chance, m, n, h, sign):
     yield Piece(h, ordinary(chance, m, h), ordinary(chance, n, h))
 
 
-def stored_cases():
-    """The known results, then for each pair of grades and each gap the places 0, D, 1, D−1 and one by chance, the pieces going round."""
+def cases_by_grades():
+    """For each pair of grades and each gap the places 0, D, 1, D−1 and one by chance, the pieces going round."""
     chance = random.Random(2)
-    for piece, r, _, _ in KNOWN_RESULTS:
-        yield piece, r
     turn = 0
     for m in range(GRADE_MAX + 1):
         for n in range(GRADE_MAX + 1):
@@ -30,6 +30,21 @@ def stored_cases():
                 for i, r in enumerate((0, D, 1, D - 1, chance.randint(2, D - 2))):
                     yield made[(i + turn) % len(made)], r
                 turn += 1
+
+
+def cases_at_halves():
+    """Values and trends that are halves before they are rounded, above 0 and below (request 5/14)."""
+    for knots, asked in (*map(halves_of_values, (1, -1)), *map(halves_of_trends, (1, 3))):
+        for x, _ in asked:
+            yield Reel(knots).place(x)
+
+
+def stored_cases():
+    """The known results, then all these."""
+    for piece, r, _, _ in KNOWN_RESULTS:
+        yield piece, r
+    yield from cases_by_grades()
+    yield from cases_at_halves()
 
 
 def words_of(piece, r):

@@ -21,7 +21,7 @@ unfoldable pub sumScans : ℤ → ℤ → List Scan → List Scan → List Scan
 sumScans α β A B = kept (first (combinationCauses α β A B)) A (combination α β A B)
 
 -- where value answers v in the reel of A: it answers v' in that of B and w in that of the sum, and w differs from
--- αv + βv' by less than (1+|α|+|β|) × 2(m+n+1)
+-- αv + βv' by at most (1+|α|+|β|) × (m+n+1)
 pub record SumNumbers (α β : ℤ) (P : Piece) (v : ℤ) (other sum : Reply) : Type 0 where
   pub v' : ℤ
   pub w : ℤ

@@ -1,5 +1,5 @@
--- Document 01, "Scans with known results": the M entries, as one group, about the model's replies. Knots at 0 and 1
--- unless said; lists are left, right.
+-- Document 01, "Scans with known results": the M entries, as one group, about the model's replies, with the 2 that
+-- request 5/14 makes 3. Knots at 0 and 1 unless said; lists are left, right.
 use mathlib.Core.List.{List, [], _∷_}
 use mathlib.Core.Path.{_≡_}
 use Prim.Native.Nat.{ℕ}
@@ -18,9 +18,9 @@ pub record KnownResults : Type 0 where
   -- (0,0), (1,0): value at 128/256 is 32,768; trend there 98,304
   pub value-half : replyTo (value 128) (two (pos 0 ∷ pos 0 ∷ []) (pos 1 ∷ pos 0 ∷ [])) ≡ number (pos 32768)
   pub trend-half : replyTo (trend 128) (two (pos 0 ∷ pos 0 ∷ []) (pos 1 ∷ pos 0 ∷ [])) ≡ number (pos 98304)
-  -- same at 1/256: value 2; with right list (−1,0): −3
-  pub value-start : replyTo (value 1) (two (pos 0 ∷ pos 0 ∷ []) (pos 1 ∷ pos 0 ∷ [])) ≡ number (pos 2)
-  pub value-down : replyTo (value 1) (two (pos 0 ∷ pos 0 ∷ []) (negsuc 0 ∷ pos 0 ∷ [])) ≡ number (negsuc 2)
+  -- same at 1/256: value 3 (5/14); with right list (−1,0): −3
+  pub value-start : replyTo (value 1) (two (pos 0 ∷ pos 0 ∷ []) (pos 1 ∷ pos 0 ∷ [])) ≡ number (pos 3)
+  pub value-below : replyTo (value 1) (two (pos 0 ∷ pos 0 ∷ []) (negsuc 0 ∷ pos 0 ∷ [])) ≡ number (negsuc 2)
   -- (0,0) at 10, (4,0) at 12: trend at 11 is 196,608
   pub trend-long : replyTo (trend 2816) (scansAt 10 12 (pos 0 ∷ pos 0 ∷ []) (pos 4 ∷ pos 0 ∷ [])) ≡ number (pos 196608)
   -- (1), (0): total 360,360

@@ -1,14 +1,14 @@
 -- Tool: linear facts about whole numbers, by `omega`, which reads naturals only. Each number is written as a difference of naturals,
--- and the set `differences` turns sums, products, negations, equations and orders of differences into statements on naturals.
+-- and the set `differences` turns sums, products, negations, sizes, equations and orders of differences into statements on naturals.
 use mathlib.Core.Path.{_≡_, refl, sym, _∙_, ap, subst}
 use mathlib.Core.Logic.{_↔_}
 use native.Mathlib.Decide.{decLe}
 use mathlib.Core.List.{[], _∷_}
 use Prim.Native.Nat.{ℕ, suc, _+_, _*_, _-_, _≤_, _<_}
 use native.Mathlib.Omega.{arith}
-use lib.Dec.{ltb→lt, leb→le, le→leb, lt→ltb}
-use lib.IntN.{ℤ, pos, negsuc, negℤ, _+ℤ_, _-ℤ_, _*ℤ_, pos-ne-negsuc}
-use lib.Signed.{_≤ℤ_, _<ℤ_, leZ-yes, ltZ-yes}
+use lib.Dec.{ltb→lt, lt→ltb}
+use lib.IntN.{ℤ, pos, negsuc, negℤ, _+ℤ_, _-ℤ_, _*ℤ_, natAbs, pos-ne-negsuc}
+use lib.Signed.{_<ℤ_, ltZ-yes}
 use Rattle.integer.specs.Within.{up, dn}
 use Rattle.integer.proofs.Ring.{lets, solve, terms}
 
@@ -75,6 +75,10 @@ pub ⊖-neg : (a b : ℕ) → negℤ (a ⊖ b) ≡ b ⊖ a
 unfolding _⊖_
 ⊖-neg a b = negation (pos a) (pos b)
 
+-- its size: one of the two is 0
+pub ⊖-size : (a b : ℕ) → natAbs (a ⊖ b) ≡ (a - b) + (b - a)
+⊖-size a b = ⊖-cases (λ z. natAbs z ≡ (a - b) + (b - a)) a b (λ n e. omega arith) (λ n e. omega arith)
+
 -- ---- equations and orders of differences
 
 -- two differences, each of either sign
@@ -93,13 +97,6 @@ pub ⊖-≡ : (a b c d : ℕ) → (a ⊖ b ≡ c ⊖ d) ↔ (a + d ≡ c + b)
     (λ n k e f. (λ g. absurd (pos-ne-negsuc k n (sym g)), λ h. absurd (omega arith)))
     (λ n k e f. (λ g. let h : n ≡ k = cc in omega arith, λ h. ap negsuc (omega arith)))
 
-pub ⊖-≤ : (a b c d : ℕ) → ((a ⊖ b) ≤ℤ (c ⊖ d)) ↔ (a + d ≤ c + b)
-⊖-≤ a b c d = pairs (λ x y. (x ≤ℤ y) ↔ (a + d ≤ c + b)) a b c d
-    (λ n k e f. (λ h. omega (arith, leb→le n k (h .le)), λ h. leZ-yes (le→leb n k (omega arith))))
-    (λ n k e f. (λ h. absurd (h .le), λ h. absurd (omega arith)))
-    (λ n k e f. (λ h. omega arith, λ h. leZ-yes tt))
-    (λ n k e f. (λ h. omega (arith, leb→le k n (h .le)), λ h. leZ-yes (le→leb k n (omega arith))))
-
 pub ⊖-< : (a b c d : ℕ) → ((a ⊖ b) <ℤ (c ⊖ d)) ↔ (a + d < c + b)
 ⊖-< a b c d = pairs (λ x y. (x <ℤ y) ↔ (a + d < c + b)) a b c d
     (λ n k e f. (λ h. omega (arith, ltb→lt n k (h .lt)), λ h. ltZ-yes (lt→ltb n k (omega arith))))
@@ -107,4 +104,4 @@ pub ⊖-< : (a b c d : ℕ) → ((a ⊖ b) <ℤ (c ⊖ d)) ↔ (a + d < c + b)
     (λ n k e f. (λ h. omega arith, λ h. ltZ-yes tt))
     (λ n k e f. (λ h. omega (arith, ltb→lt k n (h .lt)), λ h. ltZ-yes (lt→ltb k n (omega arith))))
 
-pub ruleset differences = (⊖-+, ⊖-*, ⊖-neg, pos-⊖, negsuc-⊖, ⊖-≡, ⊖-≤, ⊖-<)
+pub ruleset differences = (⊖-+, ⊖-*, ⊖-neg, ⊖-size, pos-⊖, negsuc-⊖, ⊖-≡, ⊖-<)

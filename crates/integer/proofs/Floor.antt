@@ -33,8 +33,8 @@ one-floor {d = d} {q = q} {p = p} f g = go q p (sym (f .whole) ∙ g .whole)
     go q p = rw (as-⊖ q, as-⊖ p) (simp differences (λ e. one-quotient d (up q + dn p) (up p + dn q) (f .rest) (g .rest) (omega (arith, f .small))
         (omega (arith, g .small)) (omega arith)))
 
--- u × a + c divided by d, from u = high × P + low and a × P = whole × d + rest. What is left to divide is moved up by P × d, to a natural n; c is 0
--- where rounding is down
+-- u × a + c divided by d, from u = high × P + low and a × P = whole × d + rest. What is left to divide is moved up by P × d, to a natural n; c is what
+-- is added before the floor is taken
 pub floor-of-product : (P a d c low whole rest bias n : ℕ) (u high : ℤ) → 0 < d → u ≡ high *ℤ pos P +ℤ pos low → whole * d + rest ≡ a * P → bias ≡ d * P + c →
     high *ℤ pos rest +ℤ pos (low * a + bias) ≡ pos n → Floor (u *ℤ pos a +ℤ pos c) d (high *ℤ pos whole +ℤ (pos (n / d) -ℤ pos P))
 floor-of-product P a d c low whole rest bias n u high positive e f b g = record { rest = n % d; small = mod-lt n positive; whole = all high e g }

@@ -1,7 +1,7 @@
 -- The laws of a commutative ring that `lib.IntN` leaves out: the product distributes over the sum and associates.
 use mathlib.Core.Path.{_≡_, sym, _∙_, ap, ap₂}
 use Prim.Native.Nat.{zero, suc}
-use lib.IntN.{ℤ, pos, negsuc, negℤ, one, *ℤ-one, sucℤ, predℤ, _+ℤ_, _-ℤ_, _*ℤ_, +ℤ-assoc, +ℤ-comm, +ℤ-idl, zero-*ℤ, *ℤ-comm, sucℤ-*ℤ, predℤ-*ℤ, negℤ-+ℤ}
+use lib.IntN.{ℤ, pos, negsuc, negℤ, one, *ℤ-one, sucℤ, predℤ, _+ℤ_, _*ℤ_, +ℤ-assoc, +ℤ-comm, +ℤ-idl, zero-*ℤ, *ℤ-comm, sucℤ-*ℤ, predℤ-*ℤ, negℤ-+ℤ}
 use lib.IntN.{+ℤ-invr, +ℤ-negℤ-cancel}
 
 -- what holds at 0 and is kept by each step up and down holds everywhere
@@ -53,10 +53,6 @@ pub *ℤ-interchange : (a b c d : ℤ) → (a *ℤ b) *ℤ (c *ℤ d) ≡ (a *�
 
 pub one-*ℤ : (x : ℤ) → one *ℤ x ≡ x
 one-*ℤ x = *ℤ-comm one x ∙ *ℤ-one x
-
--- a summand moved to the other side
-pub moved : (x y z : ℤ) → x +ℤ y ≡ z → x ≡ z -ℤ y
-moved x y z e = sym (+ℤ-negℤ-cancel x y) ∙ ap (λ u. u -ℤ y) e
 
 -- ---- combinations α x + β y: multiplied from either side, and added
 

@@ -4,8 +4,7 @@ use Prim.Native.Nat.{ℕ, zero, suc, _+_, _*_, _^_, _≤_, _<_, min}
 use native.Mathlib.Nat.{mul-le-mul, mul-le-mul-right}
 use native.Mathlib.Omega.{arith}
 use lib.IntN.{ℤ, pos, negsuc, negℤ, _+ℤ_, _-ℤ_, _*ℤ_, natAbs, +ℤ-idl}
-use lib.Dec.{ltb→lt}
-use lib.Signed.{mag, _≤ℤ_, _<ℤ_}
+use lib.Signed.{mag}
 use mir.Syntax.{Width, w32, w64}
 use mir.Val.{SFits, hbits, toZ, ofZ}
 use mir.Facts.{toZ-ofZ, sfits-widen}
@@ -87,11 +86,6 @@ opposite-size (suc n) = refl
 pub size-times : (n : ℕ) (z : ℤ) → natAbs (pos n *ℤ z) ≡ n * natAbs z
 size-times n (pos k) = refl
 size-times n (negsuc k) = opposite-size (n * suc k)
-
--- of a number from 0 on
-pub size-below : (z : ℤ) (n : ℕ) → pos 0 ≤ℤ z → z <ℤ pos n → natAbs z < n
-size-below (pos k) n low high = ltb→lt k n (high .lt)
-size-below (negsuc k) n low high = absurd (low .le)
 
 -- a sum of terms, each bounded by its share of B
 unfoldable pub shares : ℕ → (ℕ → ℕ) → ℕ

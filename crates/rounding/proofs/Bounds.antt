@@ -4,17 +4,18 @@ use mathlib.Core.Bool.{true}
 use mathlib.Core.Path.{_≡_, refl}
 use mathlib.Core.List.{List}
 use Prim.Native.Nat.{ℕ, zero, suc, _+_, _*_, _-_, _^_, _≤_, _<_}
-use native.Mathlib.Nat.{pow-le-pow-left, pow-le-pow-right, one-le-pow, le-trans, le-mul-of-pos-right, mul-le-mul-left, mul-le-mul-right, div-le-of-le-mul}
-use native.Mathlib.Nat.{div-lt-iff-lt-mul}
+use native.Mathlib.Nat.{pow-le-pow-left, pow-le-pow-right, one-le-pow, le-trans, le-mul-of-pos-right, mul-le-mul-left, mul-le-mul-right}
+use native.Mathlib.Nat.{lt-of-mul-lt-mul-right}
 use native.Mathlib.Decide.{decLt}
 use native.Mathlib.Omega.{arith}
 use lib.Dec.{lit<, lit≤}
-use lib.IntN.{ℤ, pos, negsuc, _*ℤ_, natAbs, zero-*ℤ}
+use lib.IntN.{ℤ, pos, negsuc, _-ℤ_, _*ℤ_, natAbs, zero-*ℤ}
 use lib.ListN.{length, getD, List·getD-eq-default}
 use Rattle.integer.specs.Sum.{sum}
 use Rattle.integer.specs.Within.{Within}
 use Rattle.integer.proofs.Tests.{each-at, each-all}
 use Rattle.integer.proofs.Claim.{_≗_, upto, sound}
+use Rattle.integer.proofs.Difference.{as-⊖, differences}
 use Rattle.integer.proofs.Within.{shares, within-sum, within-more, within-add, within-mul, within-neg, within-natural, within-size}
 use Rattle.hermite.specs.Binomial.{binomial, sign}
 use Rattle.hermite.specs.Blend.{rightWeights}
@@ -27,12 +28,26 @@ use Rattle.rounding.specs.Piece.{weight}
 use Rattle.rounding.specs.Limits.{gradeMax, gapMax, sizeMax}
 use Rattle.rounding.specs.Size.{small, sized}
 use Rattle.rounding.specs.Trend.{scaledK}
+use Rattle.rounding.proofs.Scaling.{nearest}
 
--- rounding down does not enlarge
+-- where z/d lies from −B to B, so does its rounding
 rounded-within : {B : ℕ} (z : ℤ) (d : ℕ) → 0 < d → Within (B * d) z → Within B (rounded z d)
-unfolding rounded
-rounded-within {B} (pos x) d h w = record { hi = div-le-of-le-mul d (omega (arith, w .hi)); lo = omega arith }
-rounded-within {B} (negsuc x) d h w = record { hi = omega arith; lo = div-lt-iff-lt-mul h .1 (w .lo) }
+rounded-within {B} z d h w = go (rounded z d) (nearest z d h .near)
+  where
+    most : (x : ℕ) → 2 * (x * d) ≤ 2 * (B * d) + d → x ≤ B
+    most x b =
+        let less : x < B + 1 = lt-of-mul-lt-mul-right d (omega arith) in
+        omega arith
+
+    above : (x : ℕ) → 2 * natAbs (z -ℤ pos x *ℤ pos d) ≤ d → 2 * (x * d) ≤ 2 * (B * d) + d
+    above x = rw (as-⊖ z) (simp differences (λ near. omega (arith, w .hi)))
+
+    below : (x : ℕ) → 2 * natAbs (z -ℤ negsuc x *ℤ pos d) ≤ d → 2 * (suc x * d) ≤ 2 * (B * d) + d
+    below x = rw (as-⊖ z) (simp differences (λ near. omega (arith, w .lo)))
+
+    go : (q : ℤ) → 2 * natAbs (z -ℤ q *ℤ pos d) ≤ d → Within B q
+    go (pos x) near = record { hi = most x (above x near); lo = omega arith }
+    go (negsuc x) near = record { hi = omega arith; lo = most (suc x) (below x near) }
 
 pub scaled-within : {B : ℕ} (u : ℤ) (a d : ℕ) → 0 < d → a ≤ d → Within B u → Within B (scaled u a d)
 unfolding scaled

@@ -3,13 +3,13 @@
 use mathlib.Core.List.{List, [], _∷_}
 use mathlib.Core.Path.{_≡_, refl, sym, _∙_, ap, ap₂}
 use Prim.Native.Nat.{ℕ, _+_, _*_, _-_, _^_, _≤_, _<_, max}
-use native.Mathlib.Nat.{mul-le-mul-left, lt-of-mul-lt-mul-right}
+use native.Mathlib.Nat.{mul-le-mul-left, le-of-mul-le-mul-right, one-le-pow}
 use native.Mathlib.Omega.{arith}
 use lib.IntN.{ℤ, pos, natAbs, _+ℤ_, _-ℤ_, _*ℤ_}
 use lib.ListN.{length}
 use Rattle.integer.proofs.Laws.{combination-times, times-combination}
 use Rattle.integer.proofs.Ring.{lets, solve, terms}
-use Rattle.integer.proofs.Within.{within-add, within-mul, within-neg, within-size, size-within, size-times, size-below}
+use Rattle.integer.proofs.Within.{within-add, within-mul, within-neg, within-size, size-within, size-times}
 use Rattle.hermite.specs.Polynomial.{Polynomial, _⊕_, _⊙_, coefficient, at}
 use Rattle.hermite.specs.HalfSum.{valueUnit}
 use Rattle.hermite.specs.Water.{weightedSum}
@@ -44,18 +44,13 @@ combinedPiece α β P Q = piece (P .h) (α ⊙ P .left ⊕ β ⊙ Q .left) (α �
 
 -- the error of a value in size, with the piece's h, m and n known by other names
 error-size : (S : Piece) (r h i k : ℕ) → S .h ≡ h → m S ≡ i → n S ≡ k → 0 < h → r ≤ positionUnit * h → let d = positionUnit * h in
-    natAbs (pos valueUnit *ℤ at r d (i + k + 1) (exactBlend S) -ℤ pos (d ^ (i + k + 1)) *ℤ value S r) < 2 * (i + k + 1) * d ^ (i + k + 1)
+    natAbs (pos valueUnit *ℤ at r d (i + k + 1) (exactBlend S) -ℤ pos (d ^ (i + k + 1)) *ℤ value S r) ≤ (i + k + 1) * d ^ (i + k + 1)
 unfolding valueError
-error-size S r h i k eh em en long within =
-    let d = value-distance S r (omega arith) (omega arith) in
-    rw (← eh, ← em, ← en) (size-below _ _ (d .atLeast) (d .below))
+error-size S r h i k eh em en long within = rw (← eh, ← em, ← en) (value-distance S r (omega arith) (omega arith))
 
--- three errors below the same bound
-errors-add : (a b e e' e'' M T s : ℕ) → e < M * T → e' < M * T → e'' < M * T → s ≤ a * e + b * e' + e'' → s < (1 + a + b) * M * T
-errors-add a b e e' e'' M T s f g k most = omega (arith, mul-le-mul-left a (below f), mul-le-mul-left b (below g))
-  where
-    below : {x y : ℕ} → x < y → x ≤ y
-    below h = omega arith
+-- three errors of the same bound
+errors-add : (a b e e' e'' M T s : ℕ) → e ≤ M * T → e' ≤ M * T → e'' ≤ M * T → s ≤ a * e + b * e' + e'' → s ≤ (1 + a + b) * M * T
+errors-add a b e e' e'' M T s f g k most = omega (arith, mul-le-mul-left a f, mul-le-mul-left b g)
 
 module _ (α β : ℤ) (P Q : Piece) (same-h : Q .h ≡ P .h) (same-m : m Q ≡ m P) (same-n : n Q ≡ n P) where
   abbrev R : Piece
@@ -124,11 +119,11 @@ module _ (α β : ℤ) (P Q : Piece) (same-h : Q .h ≡ P .h) (same-m : m Q ≡ 
         (within-neg _ (within-size (error R)))))
 
     pub value-combines : CombinedDistance α β P (value P r) (value Q r) (value R r)
-    value-combines = lt-of-mul-lt-mul-right T (omega (arith, size-times T apart, below))
+    value-combines = le-of-mul-le-mul-right (omega (arith, size-times T apart, most)) (one-le-pow (N P) (D P) (omega arith))
       where
-        below : natAbs (pos T *ℤ apart) < (1 + natAbs α + natAbs β) * (2 * (m P + n P + 1)) * T
-        below =
-            errors-add (natAbs α) (natAbs β) (natAbs (error P)) (natAbs (error Q)) (natAbs (error R)) (2 * (m P + n P + 1)) T _
+        most : natAbs (pos T *ℤ apart) ≤ (1 + natAbs α + natAbs β) * (m P + n P + 1) * T
+        most =
+            errors-add (natAbs α) (natAbs β) (natAbs (error P)) (natAbs (error Q)) (natAbs (error R)) (m P + n P + 1) T _
             (error-size P r (P .h) (m P) (n P) refl refl refl long within)
             (error-size Q r (P .h) (m P) (n P) same-h same-m same-n long within)
             (error-size R r (P .h) (m P) (n P) refl grade-left grade-right long within) error-most

@@ -1,5 +1,4 @@
 pub mod Near
-pub mod Scaling
 pub mod HalfSum
 pub mod Value
 pub mod Slope

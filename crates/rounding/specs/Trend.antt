@@ -1,8 +1,7 @@
--- Document 01, "Trend": the trend at distance r from the left knot, in 1/65,536 count per step, and demand 3's
--- distance.
-use Prim.Native.Nat.{ℕ, _+_, _*_, _-_, _^_}
-use lib.IntN.{ℤ, pos, negℤ, _+ℤ_, _-ℤ_, _*ℤ_}
-use lib.Signed.{_≤ℤ_}
+-- Document 01, "Trend": the trend at distance r from the left knot, in 1/65,536 count per step, and its distance in
+-- demand 3, as request 5/14 gives it.
+use Prim.Native.Nat.{ℕ, _+_, _*_, _-_, _^_, _≤_}
+use lib.IntN.{ℤ, pos, natAbs, _+ℤ_, _-ℤ_, _*ℤ_}
 use Rattle.hermite.specs.Polynomial.{at}
 use Rattle.hermite.specs.Blend.{rightWeights}
 use Rattle.hermite.specs.HalfSum.{valueUnit}
@@ -28,7 +27,7 @@ scaledK m n r D k = scaledTimes n (scaledTimes m (pos valueUnit *ℤ k) r D) (D 
 unfoldable pub Y3 : Piece → ℕ → ℤ
 Y3 P r = scaledK (m P) (n P) r (D P) (K (m P) (n P) (p P) (q P))
 
--- Trend = (Y1 − Y2 + Y3) divided by h, rounded down
+-- Trend = (Y1 − Y2 + Y3) divided by h, to the nearest (5/14)
 unfoldable pub trend : Piece → ℕ → ℤ
 trend P r = rounded (Y1 P r -ℤ Y2 P r +ℤ Y3 P r) (P .h)
 
@@ -36,7 +35,6 @@ trend P r = rounded (Y1 P r -ℤ Y2 P r +ℤ Y3 P r) (P .h)
 unfoldable pub trendError : Piece → ℕ → ℤ → ℤ
 trendError P r z = pos valueUnit *ℤ at r (D P) (N P) (exactDerivative P) -ℤ pos (D P ^ N P) *ℤ (pos (P .h) *ℤ z)
 
--- 65,536 × the exact derivative over the piece − h × z is from −(m+n) to 2(m+n)+h−1, both ends included
-pub record TrendDistance (P : Piece) (r : ℕ) (z : ℤ) : Type 0 where
-  pub atLeast : negℤ (pos ((m P + n P) * D P ^ N P)) ≤ℤ trendError P r z
-  pub atMost : trendError P r z ≤ℤ pos ((2 * (m P + n P) + P .h - 1) * D P ^ N P)
+-- twice the distance between 65,536 × the exact derivative over the piece and h × z is at most 3(m+n)+h
+abbrev pub TrendDistance : Piece → ℕ → ℤ → Type 0
+TrendDistance P r z = 2 * natAbs (trendError P r z) ≤ (3 * (m P + n P) + P .h) * D P ^ N P

@@ -1,8 +1,7 @@
--- Document 01, "Blend over one piece": the value at distance r from the left knot, in 1/65,536 count, and demand
--- 3's distance.
-use Prim.Native.Nat.{ℕ, _+_, _*_, _-_, _^_}
-use lib.IntN.{ℤ, pos, _+ℤ_, _-ℤ_, _*ℤ_}
-use lib.Signed.{_≤ℤ_, _<ℤ_}
+-- Document 01, "Blend over one piece": the value at distance r from the left knot, in 1/65,536 count, and its distance
+-- in demand 3, as request 5/14 gives it.
+use Prim.Native.Nat.{ℕ, _+_, _*_, _-_, _^_, _≤_}
+use lib.IntN.{ℤ, pos, natAbs, _+ℤ_, _-ℤ_, _*ℤ_}
 use Rattle.hermite.specs.Polynomial.{at}
 use Rattle.hermite.specs.Blend.{rightWeights}
 use Rattle.hermite.specs.HalfSum.{valueUnit}
@@ -21,7 +20,6 @@ N P = m P + n P + 1
 unfoldable pub valueError : Piece → ℕ → ℤ → ℤ
 valueError P r v = pos valueUnit *ℤ at r (D P) (N P) (exactBlend P) -ℤ pos (D P ^ N P) *ℤ v
 
--- 65,536 × the exact blend − v is at least 0 and below 2(m+n+1)
-pub record ValueDistance (P : Piece) (r : ℕ) (v : ℤ) : Type 0 where
-  pub atLeast : pos 0 ≤ℤ valueError P r v
-  pub below : valueError P r v <ℤ pos (2 * (m P + n P + 1) * D P ^ N P)
+-- v lies within m+n+1 of 65,536 × the exact blend, either way
+abbrev pub ValueDistance : Piece → ℕ → ℤ → Type 0
+ValueDistance P r v = natAbs (valueError P r v) ≤ (m P + n P + 1) * D P ^ N P

@@ -11,13 +11,14 @@ pub record Divides (d reciprocal : ℕ) : Type 0 where
   pub atMost : d ≤ positionUnit * gapMax
   pub inParts : reciprocal ≡ 2 ^ 64 / d + 1
 
--- what a prepared fraction holds: a/d from 0 to 1, the quotient and the rest of a × 2^32 by d, and the bias
+-- what a prepared fraction holds: a/d from 0 to 1, the quotient and the rest of a × 2^32 by d, and the bias: d × 2^32,
+-- and half of d more, so that rounding down gives the nearest
 pub record Prepared (s : Fraction) : Type 0 where
   pub divides : Divides (s .d) (s .reciprocal)
   pub proper : s .a ≤ s .d
   pub quotient : s .whole * s .d + s .rest ≡ s .a * 2 ^ 32
   pub below : s .rest < s .d
-  pub biased : s .bias ≡ s .d * 2 ^ 32
+  pub biased : s .bias ≡ s .d * 2 ^ 32 + s .d / 2
 
 -- two prepared fractions of one divisor, a/d and (d−a)/d
 pub record Complements (s t : Fraction) : Type 0 where

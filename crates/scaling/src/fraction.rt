@@ -1,4 +1,4 @@
-// Scaling by a fraction, rounded down, without a division and without a branch. Every scaling of the engine is a call
+// Scaling by a fraction, to the nearest, without a division and without a branch. Every scaling of the engine is a call
 // of `scaled`.
 ghost use mathlib.Core.Path.{_≡_};
 ghost use Prim.Native.Nat.{_*_, _/_, _≤_, _<_, _^_, _-_};
@@ -44,7 +44,8 @@ fn high_product(x: u64, y: u64) -> u64
 }
 
 // A fraction a/d from 0 to 1, prepared for many scalings: a × 2^32 = whole × d + rest, with a rest below d. The bias is
-// a multiple of d that lifts what a scaling divides above 0.
+// a multiple of d that lifts what a scaling divides above 0, and half of d more: what is then rounded down is the
+// nearest, halves up.
 pub struct Fraction {
     pub a: u64,
     pub d: u64,
@@ -69,15 +70,15 @@ impl Fraction {
             d,
             whole,
             rest: numerator - whole * d,
-            bias: d << 32,
+            bias: (d << 32) + (d >> 1),
             reciprocal,
         }
     }
 }
 
 // u scaled by a/d. With u = high × 2^32 + low, u × a / d is high × whole + (high × rest + low × a) / d. The bias,
-// 2^32 × d, makes what is divided there a natural below 2^46, which its product with the reciprocal divides exactly,
-// and comes off again as 2^32.
+// 2^32 × d + d/2, makes what is divided there a natural below 2^46, which its product with the reciprocal divides
+// exactly, and comes off again as 2^32; its d/2 stays, as the half that rounds to the nearest.
 pub fn scaled(u: i64, s: Fraction) -> i64
     requires { ⌜ (Prepared s) × (Within (2 ^ 63 - 1) u) ⌝ }
     ensures { λ r. ⌜ r ≡ Scaling·scaled u (s .a) (s .d) ⌝ }

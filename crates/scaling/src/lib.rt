@@ -1,4 +1,4 @@
-// Scaling in machine integers, rounded down.
+// Scaling in machine integers, to the nearest.
 mod fraction;
 
 pub use fraction::Divisor;

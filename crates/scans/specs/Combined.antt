@@ -24,7 +24,8 @@ pub record Combined (α β : ℤ) (A B C : List Scan) : Type 0 where
   pub blends : (k i : ℕ) → suc k < length A → a C k i ≡ α *ℤ a A k i +ℤ β *ℤ a B k i
   -- "and totals": over every range
   pub totals : (i j : ℕ) → i ≤ j → j < length A → totalOver C i j ≡ α *ℤ totalOver A i j +ℤ β *ℤ totalOver B i j
-  -- "Its value differs from αv + βv' by less than (1+|α|+|β|) × 2(m+n+1)": at every query position in the reel
+  -- "Its value differs from αv + βv' by less than (1+|α|+|β|) × 2(m+n+1)", and by 5/14 "at most half the bound there":
+  -- at every query position in the reel
   pub values : (x : ℕ) → InReel A x → CombinedDistance α β (valuePiece A x) (valueAt A x) (valueAt B x) (valueAt C x)
 
 -- so it is for every α and β, and for all scans that stand and have the same positions and grades; of the second list

@@ -1,5 +1,5 @@
--- Request 4/14: "Its value differs from αv + βv' by less than (1+|α|+|β|) × 2(m+n+1)". Here it is about the calls as
--- their functions' own contracts have them, on any held reels.
+-- Request 4/14: how far "its value differs from αv + βv'", which 5/14 halves. Here it is about the calls as their
+-- functions' own contracts have them, on any held reels.
 use mathlib.Core.Path.{_≡_}
 use Prim.Native.Nat.{ℕ}
 use lib.IntN.{ℤ}

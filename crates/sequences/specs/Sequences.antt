@@ -25,12 +25,13 @@ pub record Right (call : Call) (standing : List Scan) (outcome : Outcome) (hande
   pub leaves : scans handed ≡ standingAfter call standing
   -- every byte of a lent output is as document 01 says
   pub writes : outcome .output ≡ output call standing
-  -- for each value v, 65,536 × the exact blend − v is at least 0 and below 2(m+n+1), with m, n, h and r of the
+  -- each value lies within m+n+1 of 65,536 × the exact blend, either way (request 5/14), with m, n, h and r of the
   -- piece of a value
   pub values : (x : ℕ) (v : ℤ) → call ≡ value x → replyOf (outcome .answer) ≡ number v →
       ValueDistance (valuePiece standing x) (valuePlace standing x .r) v
-  -- for each trend z, 65,536 × the exact derivative over the piece − h × z is from −(m+n) to 2(m+n)+h−1, with those
-  -- of the piece of a trend, which at a lone reading is the one on its left (request 3/14)
+  -- for each trend z, twice the distance between 65,536 × the exact derivative over the piece and h × z is at most
+  -- 3(m+n)+h (request 5/14), with those of the piece of a trend, which at a lone reading is the one on its left
+  -- (request 3/14)
   pub trends : (x : ℕ) (z : ℤ) → call ≡ trend x → replyOf (outcome .answer) ≡ number z →
       TrendDistance (trendPiece standing x) (trendPlace standing x .r) z
   -- each total is the exact integral of the blends over its pieces

@@ -266,10 +266,12 @@ def read_and_ask(script, alpha, beta, knots, others):
     ask_around(script)
 
 
-# Knots of grades 0 and 0, the value at 1/256, and the values there of αA + βA. As all is rounded down, these are not αv + βv.
+# Knots of grades 0 and 0, the value at 1/256, and the values there of αA + βA. In the first one scaling goes up by 1/3 and the
+# other down by 1/3, and so in its sums: these have αv + βv. In the second both go up by 1/15. As 32 times that is 2 and 2/15,
+# the values of −32A and 32A are 4 from αv + βv.
 ROUNDED = (
-    ([(0, (1,)), (3, (1,))], 65_535, ((-1, 0, -65_537), (0, -1, -65_537), (1, 1, 131_071), (2, 1, 196_608), (1, -1, 0), (0, 0, 0))),
-    ([(0, (1,)), (15, (14,))], 65_756, ((-16, -16, -2_104_252), (16, 16, 2_104_250), (16, -16, 0), (-1, 0, -65_758), (1, 0, 65_756))),
+    ([(0, (1,)), (3, (1,))], 65_536, ((-1, 0, -65_536), (0, -1, -65_536), (1, 1, 131_072), (2, 1, 196_608), (1, -1, 0), (0, 0, 0))),
+    ([(0, (1,)), (15, (14,))], 65_758, ((-16, -16, -2_104_252), (16, 16, 2_104_252), (16, -16, 0), (-1, 0, -65_758), (1, 0, 65_758))),
 )
 
 

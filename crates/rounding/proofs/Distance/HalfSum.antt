@@ -1,6 +1,6 @@
--- The half-sum beside its unrounded self: m+n+1 scalings, each with an error from −e₁/D to e₂/D.
+-- The half-sum beside its unrounded self: m+n+1 scalings.
 use mathlib.Core.Path.{_≡_, refl, sym, _∙_, ap, ap₂}
-use Prim.Native.Nat.{ℕ, zero, suc, _+_, _*_, _-_, _^_, _≤_}
+use Prim.Native.Nat.{ℕ, zero, suc, _+_, _*_, _-_, _^_, _≤_, _<_}
 use native.Mathlib.Nat.{pow-zero, pow-succ', zero-add, add-zero}
 use native.Mathlib.Omega.{arith}
 use lib.IntN.{ℤ, pos, one, _+ℤ_, _*ℤ_, +ℤ-comm, *ℤ-comm, *ℤ-one}
@@ -9,9 +9,10 @@ use Rattle.integer.proofs.Laws.{one-*ℤ, *ℤ-assoc, *ℤ-left-comm}
 use Rattle.integer.proofs.Sum.{sum-cong, sum-*, sum-first}
 use Rattle.hermite.specs.HalfSum.{valueUnit, g, unroundedDescent, unrounded}
 use Rattle.hermite.proofs.At.{power-first, power-next}
-use Rattle.rounding.specs.Scaling.{rounded, scaled, scaledTimes}
+use Rattle.rounding.specs.Scaling.{scaled, scaledTimes}
 use Rattle.rounding.specs.HalfSum.{descended, halfSum}
-use Rattle.rounding.proofs.Distance.Near.{Near, Rounding, near-exact, near-start, near-as, near-scaled, near-sum}
+use Rattle.rounding.proofs.Scaling.{nearest}
+use Rattle.rounding.proofs.Distance.Near.{Near, near-exact, near-start, near-as, near-scaled, near-sum}
 
 -- the sums of step 2 from i on
 from : (ℕ → ℤ) → ℕ → ℕ → ℤ
@@ -39,25 +40,24 @@ descent-next G a D k i =
         let e : i + suc l ≡ suc i + l = omega arith in
         rw (e, power-next a D k l) (*ℤ-left-comm (pos valueUnit *ℤ G (suc i + l)) (pos a) (pos (a ^ l * D ^ (k - l))))
 
-module _ (D e₁ e₂ : ℕ) (once : (z : ℤ) → Rounding D e₁ e₂ z (rounded z D)) where
-  pub near-times : {N c₁ c₂ : ℕ} {Z u : ℤ} (k a : ℕ) → a ≤ D → Near D N c₁ c₂ Z u →
-      Near D (N + k) (c₁ + k * e₁) (c₂ + k * e₂) (pos (a ^ k) *ℤ Z) (scaledTimes k u a D)
+module _ (D : ℕ) (positive : 0 < D) where
+  pub near-times : {N j : ℕ} {Z u : ℤ} (k a : ℕ) → a ≤ D → Near D N j Z u → Near D (N + k) (j + k) (pos (a ^ k) *ℤ Z) (scaledTimes k u a D)
   unfolding scaledTimes scaled one
-  near-times {Z = Z} zero a h near = near-as (omega arith) (omega arith) (omega arith) (rw pow-zero (sym (one-*ℤ Z))) near
+  near-times {Z = Z} zero a h near = near-as (omega arith) (omega arith) (rw pow-zero (sym (one-*ℤ Z))) near
   near-times {Z = Z} {u = u} (suc k) a h near =
-      near-as (omega arith) (omega arith) (omega arith)
-      (rw pow-succ' (sym (*ℤ-assoc (pos a) (pos (a ^ k)) Z)))
-      (near-scaled a h (near-times k a h near) (once (scaledTimes k u a D *ℤ pos a)))
+      near-as (omega arith) (omega arith) (rw pow-succ' (sym (*ℤ-assoc (pos a) (pos (a ^ k)) Z)))
+      (near-scaled a h (near-times k a h near) (nearest (scaledTimes k u a D *ℤ pos a) D positive))
 
-  near-descended : (G : ℕ → ℤ) (a k i : ℕ) → a ≤ D → Near D k (k * e₁) (k * e₂) (unroundedDescent (from G i) a D k) (descended G a D k i)
+  near-descended : (G : ℕ → ℤ) (a k i : ℕ) → a ≤ D → Near D k k (unroundedDescent (from G i) a D k) (descended G a D k i)
   unfolding descended scaled
-  near-descended G a zero i h = near-as refl (omega arith) (omega arith) (sym (descent-last G a D i)) (near-start D (pos valueUnit *ℤ G i))
+  near-descended G a zero i h = near-as refl (omega arith) (sym (descent-last G a D i)) (near-start D (pos valueUnit *ℤ G i))
   near-descended G a (suc k) i h =
-      near-as refl (omega arith) (omega arith) (sym (descent-next G a D k i))
-      (near-sum (near-scaled a h (near-descended G a k (suc i) h) (once (descended G a D k (suc i) *ℤ pos a))) (near-exact D (suc k) (pos valueUnit *ℤ G i)))
+      near-as refl (omega arith) (sym (descent-next G a D k i))
+      (near-sum (near-scaled a h (near-descended G a k (suc i) h) (nearest (descended G a D k (suc i) *ℤ pos a) D positive))
+      (near-exact D (suc k) (pos valueUnit *ℤ G i)))
 
-  pub near-halfSum : (m n a : ℕ) (w : ℕ → ℤ) → a ≤ D → Near D (m + (n + 1)) ((m + (n + 1)) * e₁) ((m + (n + 1)) * e₂) (unrounded m n a D w) (halfSum m n a D w)
+  pub near-halfSum : (m n a : ℕ) (w : ℕ → ℤ) → a ≤ D → Near D (m + (n + 1)) (m + (n + 1)) (unrounded m n a D w) (halfSum m n a D w)
   unfolding halfSum unrounded unroundedDescent from
-  near-halfSum m n a w h = near-as refl (omega arith) (omega arith)
+  near-halfSum m n a w h = near-as refl (omega arith)
       (ap (λ x. pos ((D - a) ^ (n + 1)) *ℤ x) (sum-cong m _ _ (λ l b. ap (λ i. pos valueUnit *ℤ g n w i *ℤ pos (a ^ l * D ^ (m - l))) (zero-add l))))
       (near-times (n + 1) (D - a) (omega arith) (near-descended (g n w) a m 0 h))

@@ -4,16 +4,17 @@ use Prim.Native.Nat.{ℕ, zero, suc, _+_, _*_, _-_, _/_, _%_, _^_, _≤_, _<_}
 use native.Mathlib.Nat.{div-add-mod', mod-lt, div-le-self, mul-le-mul, le-of-mul-le-mul-right}
 use native.Mathlib.Omega.{arith}
 use lib.Dec.{lit<}
-use lib.IntN.{ℤ, pos, negsuc, negℤ, _+ℤ_, _-ℤ_, _*ℤ_, +ℤ-idr}
+use lib.IntN.{ℤ, pos, negsuc, negℤ, _+ℤ_, _-ℤ_, _*ℤ_}
 use lib.Signed.{shrZ}
 use mir.Syntax.{w64}
 use mir.Val.{SFits, ofZ}
 use Rattle.integer.specs.Within.{up, dn, Within}
-use Rattle.integer.proofs.Floor.{floor, one-floor, floor-of-product}
+use Rattle.integer.proofs.Floor.{floor-of-product}
 use Rattle.integer.proofs.Product.{by-reciprocal}
 use Rattle.integer.proofs.Within.{within-natural, within-more, within-neg, within-add, within-fits}
 use Rattle.integer.proofs.Difference.{differences}
-use Rattle.rounding.specs.Scaling.{rounded, scaled}
+use Rattle.rounding.specs.Scaling.{scaled}
+use Rattle.rounding.proofs.Scaling.{half-added}
 use Rattle.scaling.specs.Machine.{Prepared}
 use Rattle.scaling.specs.declared.fraction.Fraction.{Fraction}
 
@@ -60,9 +61,9 @@ product-fits (negsuc k) x h l b = minus-fits (suc k * x) (omega (arith, mul-le-m
 -- ---- the steps of a scaling by a prepared fraction
 
 module _ (u : ℤ) (s : Fraction) (known : Prepared s) (within : Within (2 ^ 63 - 1) u) where
-  low-most : low u * s .a ≤ 2 ^ 32 * 4096
+  low-most : low u * s .a ≤ (2 ^ 32 - 1) * 4096
   low-most =
-      let below : low u ≤ 2 ^ 32 = omega (arith, low-below u) in
+      let below : low u ≤ 2 ^ 32 - 1 = omega (arith, low-below u) in
       let most : s .a ≤ 4096 = omega (arith, known .proper, known .divides .atMost) in
       mul-le-mul below most
 
@@ -100,13 +101,11 @@ module _ (u : ℤ) (s : Fraction) (known : Prepared s) (within : Within (2 ^ 63 
 
   -- the steps together
   pub steps-are : high u *ℤ pos (s .whole) +ℤ (pos (dividend / s .d) -ℤ pos (2 ^ 32)) ≡ scaled u (s .a) (s .d)
-  unfolding scaled rounded
+  unfolding scaled
   steps-are =
-      let bias : s .bias ≡ s .d * 2 ^ 32 + 0 = omega (arith, known .biased) in
-      one-floor
-      (floor-of-product (2 ^ 32) (s .a) (s .d) 0 (low u) (s .whole) (s .rest) (s .bias) dividend u (high u)
-      (known .divides .atLeast) (halves u within) (known .quotient) bias dividend-is)
-      (rw (+ℤ-idr (u *ℤ pos (s .a))) (floor (u *ℤ pos (s .a)) (s .d) (known .divides .atLeast)))
+      half-added (u *ℤ pos (s .a)) _ (s .d) (known .divides .atLeast)
+      (floor-of-product (2 ^ 32) (s .a) (s .d) (s .d / 2) (low u) (s .whole) (s .rest) (s .bias) dividend u (high u)
+      (known .divides .atLeast) (halves u within) (known .quotient) (known .biased) dividend-is)
 
   -- and what is added to high × whole
   pub quotient-most : dividend / s .d ≤ 2 ^ 46

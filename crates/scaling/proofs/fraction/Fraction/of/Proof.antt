@@ -1,6 +1,6 @@
 -- `scaling::fraction::Fraction::of` meets its contract: whole and rest are quotient and rest of a × 2^32 by d.
 use borrow.Author.Needs.{needs}
-use mathlib.Core.Path.{_≡_, refl, _∙_}
+use mathlib.Core.Path.{_≡_, refl, _∙_, ap}
 use Prim.Native.Nat.{ℕ, _+_, _*_, _-_, _/_, _%_, _^_, _≤_, _<_}
 use native.Mathlib.Nat.{div-add-mod', mod-lt, mod-eq-of-lt, mul-le-mul}
 use native.Mathlib.Omega.{arith}
@@ -48,7 +48,7 @@ module _ (a : ℕ) (s : Divisor) (proper : a ≤ s .d) (divides : Divides (s .d)
     d = s .d;
     whole = w;
     rest = a * 2 ^ 32 % 2 ^ 64 - w * s .d;
-    bias = s .d * 2 ^ 32 % 2 ^ 64;
+    bias = s .d * 2 ^ 32 % 2 ^ 64 + s .d / 2;
     reciprocal = s .reciprocal;
   })
   prepared = record {
@@ -56,7 +56,7 @@ module _ (a : ℕ) (s : Divisor) (proper : a ≤ s .d) (divides : Divides (s .d)
     proper = proper;
     quotient = omega (arith, numerator-is, whole-and-rest);
     below = omega (arith, numerator-is, whole-and-rest, rest-below);
-    biased = shifted (s .d) (divides .atMost);
+    biased = ap (λ x. x + s .d / 2) (shifted (s .d) (divides .atMost));
   }
 
 returns : tie.Need-returns
@@ -73,5 +73,8 @@ mul-t7 c = let b = c .before in whole-fits (b .args .a) (b .args .divisor) (b .p
 sub-t8 : tie.Need-sub-t8
 sub-t8 c = let b = c .before in whole-below (b .args .a) (b .args .divisor) (b .pre .0) (b .pre .1) (c .high-product .result) (c .high-product .ensures)
 
+add-t11 : tie.Need-add-t11
+add-t11 c = record { fits = omega (arith, shifted (c .before .args .divisor .d) (c .before .pre .1 .atMost), c .before .pre .1 .atMost) }
+
 pub of-spec : {M : Type 1} → statement M
-of-spec = tie.close (tie.spec high-product-requires mul-t7 sub-t8 returns)
+of-spec = tie.close (tie.spec high-product-requires mul-t7 sub-t8 add-t11 returns)
