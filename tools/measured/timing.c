@@ -108,9 +108,13 @@ static void tell(const char *kind, const char *name, int size, const double time
     fflush(stdout);
 }
 
+/* a request may change answers, so a difference is told, once for each name, and does not stop the run */
 static void compare(const char *name, const int64_t answer[2])
 {
-    if (answer[0] != answer[1]) { printf("%s: the answers differ\n", name); exit(1); }
+    static char told[200];
+    if (answer[0] == answer[1] || strstr(told, name)) return;
+    strcat(told, name);
+    fprintf(stderr, "%s: the answers differ\n", name);
 }
 
 static void piece_times(const struct piece_measure *measure, int size)
