@@ -2,11 +2,6 @@
 ghost use Rattle.reel.specs.Machine.{Held};
 use crate::answers::told;
 use crate::answers::unreadable;
-use crate::field::END;
-use crate::field::LINE_MAX;
-use crate::field::symbol_at;
-use crate::number::UNSIGNED_MAX;
-use crate::number::number_at;
 use crate::reel_calls::combine;
 use crate::reel_calls::listed;
 use crate::reel_calls::loaded;
@@ -27,6 +22,11 @@ use crate::words::VALUE;
 use crate::words::VIEW;
 use crate::words::VIEW_AT;
 use crate::words::WRITE;
+use fields::END;
+use fields::LINE_MAX;
+use fields::UNSIGNED_MAX;
+use fields::number_at;
+use fields::symbol_at;
 use reel::Reel;
 
 // The call that a word names; the fields after it start at a place. The first is read as a number, for the calls that

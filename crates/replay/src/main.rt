@@ -2,10 +2,7 @@
 // an answer for each; docs/REPLAY.md has the lines. What it writes is compared, not proved: it promises that it is safe
 // for every script, and that the reel is held at every call.
 mod answers;
-mod field;
-mod hex;
 mod line;
-mod number;
 mod reel_calls;
 mod script;
 mod views;

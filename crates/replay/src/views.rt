@@ -1,10 +1,10 @@
 // The workshop's calls, which take a block and leave the reel alone: `view HEX K N` and `viewat HEX K N I`.
 use crate::answers::refused;
 use crate::answers::say_unreadable;
-use crate::field::room;
-use crate::hex::bytes;
-use crate::number::UNSIGNED_MAX;
-use crate::number::number_at;
+use fields::UNSIGNED_MAX;
+use fields::bytes;
+use fields::number_at;
+use fields::room;
 use readings::Shown;
 use readings::look;
 

@@ -21,9 +21,8 @@ pub struct Number {
     pub next: usize,
 }
 
-// The number of the field at a place, from −least to most. The limits are constants of 32 bits, which this program's
-// own lines hand over and nobody else can.
-pub(crate) fn number_at(line: &[u8], at: usize, most: u64, least: u64) -> Number
+// The number of the field at a place, from −least to most. The limits have 32 bits, as the calls' arguments have.
+pub fn number_at(line: &[u8], at: usize, most: u64, least: u64) -> Number
     requires { ⌜ (most ≤ 4294967295) × (least ≤ 4294967295) ⌝ }
     ensures { λ r. ⌜ (r .magnitude ≤ most + least) × (at ≤ length (now (line .entry)) → at < r .next)
         × (r .negative ≡ false → r .magnitude ≤ most) × (r .negative ≡ true → r .magnitude ≤ least) ⌝ }

@@ -1,4 +1,4 @@
--- `replay::number::signed_at` meets its contract: the number fits on 32 bits with its sign.
+-- `fields::number::signed_at` meets its contract: the number fits on 32 bits with its sign.
 use borrow.Author.Needs.{needs}
 use mathlib.Core.Logic.{⊎-elim}
 use mathlib.Core.Path.{_≡_}
@@ -9,8 +9,8 @@ use lib.Pow.{pow-pos}
 use mir.Syntax.{Width, w32, w64}
 use mir.Val.{SFits, hbits, toZ}
 use mir.Facts.{toZ-ofZ, toZ-pos}
-use Rattle.replay.proofs.number.signed_at.Statement.{statement}
-use Rattle.replay.proofs.number.signed_at.Tie as tie
+use Rattle.fields.proofs.number.signed_at.Statement.{statement}
+use Rattle.fields.proofs.number.signed_at.Tie as tie
 
 fits : (w : Width) (n : ℕ) → n ≤ 2 ^ hbits w → SFits w (negℤ (pos n))
 fits w zero h = record { sfits = pow-pos (hbits w) }

@@ -1,4 +1,4 @@
--- `replay::number::number_at` meets its contract; after every digit the value is within its limit.
+-- `fields::number::number_at` meets its contract; after every digit the value is within its limit.
 use borrow.Author.Needs.{needs}
 use native.Mathlib.Omega.{arith}
 use lib.ListN.{length}
@@ -7,8 +7,8 @@ use mathlib.Core.Bool.{Bool, true, false}
 use mathlib.Core.Logic.{⊎-elim}
 use Prim.Native.Nat.{ℕ, _+_, _-_, _≤_}
 use mathlib.Core.Path.{_≡_}
-use Rattle.replay.proofs.number.number_at.Statement.{statement}
-use Rattle.replay.proofs.number.number_at.Tie as tie
+use Rattle.fields.proofs.number.number_at.Statement.{statement}
+use Rattle.fields.proofs.number.number_at.Tie as tie
 
 never : (b : Bool) {m n : ℕ} → b ≡ true → b ≡ false → m ≤ n
 never b t f = let z : _≡_ {A = ℕ} 0 1 = cc in omega arith

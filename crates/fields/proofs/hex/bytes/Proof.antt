@@ -1,12 +1,12 @@
--- `replay::hex::bytes` meets its contract: what is taken lies within the room.
+-- `fields::hex::bytes` meets its contract: what is taken lies within the room.
 use borrow.Author.Needs.{needs}
 use native.Mathlib.Omega.{arith}
 use lib.ListN.{length, length-set}
 use mathlib.Core.Logic.{⊎-elim}
 use Prim.Native.Nat.{_-_, _≤_}
 use mathlib.Core.Path.{_≡_}
-use Rattle.replay.proofs.hex.bytes.Statement.{statement}
-use Rattle.replay.proofs.hex.bytes.Tie as tie
+use Rattle.fields.proofs.hex.bytes.Statement.{statement}
+use Rattle.fields.proofs.hex.bytes.Tie as tie
 
 abbrev Inv-loop : tie.InvT-loop
 Inv-loop line at room₀ count₀ end₀ limit room count end =
