@@ -1,6 +1,6 @@
 #!/usr/bin/env python3
-"""Document 01 in exact fractions, with requests 1/14, 3/14, 4/14 and 5/14 of document 02: what the engine's numbers are held
-against.
+"""Document 01 in exact fractions, with requests 1/14 and 3/14 to 6/14 of document 02: what the engine's numbers are
+held against.
 
 Written from the documents, in their letters, and not from the Rattle text: the blend is formula (1)
 multiplied out, the derivative comes by differentiating it and the total by integrating it. Every case
@@ -19,8 +19,9 @@ files that `vectors` makes. The documents stand in document/, what the stored fi
                     001, what the distances need, halves, and a sweep over all grades and gaps; then the worked
                     block, its report and its text, the stored reports; of blocks by chance, text and bytes with
                     readings, that the operator's answers skip these, and the views; of sums of reels, over all
-                    grades and gaps, the blends, totals and values; and the replay script, with the reel's round
-                    trip after every call and that of every block it accepts
+                    grades and gaps, the blends, totals and values; of calls by chance, that a 6 names the first
+                    coefficient that was too large; and the replay script, with the reel's round trip after every
+                    call and that of every block it accepts
   exact.py averages the mean errors of values and trends at many places: every rounding down, they lean; to nearest,
                     as request 5/14 has it, no more is left than halves up bring
 """
@@ -35,9 +36,10 @@ from document.averages import mean_errors
 from document.block import block_of, contents_of, packed
 from document.combination import hold_combinations
 from document.hold import Broken
-from document.knot import Refused
+from document.knot import Refused, number_of
 from document.known_results import WORKED, hold_known_refusals, hold_known_results, hold_worked_report
 from document.piece import case
+from document.places import hold_places
 from document.readings import hold_readings
 from document.report import report_of
 from document.sweep import hold_halves, hold_integral_weights, hold_need_of_distances, hold_sweep
@@ -96,7 +98,7 @@ def unpack():
     try:
         sys.stdout.write(text_of(*contents_of(sys.stdin.buffer.read())))
     except Refused as refused:
-        sys.exit(f"refused {refused.args[0]}")
+        sys.exit(f"refused {number_of(refused.args[0])}")
 
 
 def check():
@@ -111,6 +113,7 @@ def check():
     print(f"the worked block's report and text held; {len(stored_reports())} stored blocks reported")
     print(f"{hold_readings()} pairs of blocks that differ only in readings and end count give the same list and report")
     print("{} sums of reels held, {} of them refused".format(*hold_combinations()))
+    print("{} calls by chance held, {} of which name the first coefficient that was too large".format(*hold_places()))
     script = transcript()
     print(f"the worked block held; {len(script.answers)} calls of the replay script answered, {script.round_trips} round trips held")
 

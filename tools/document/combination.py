@@ -4,7 +4,7 @@ from functools import cache
 
 from document.coefficients import extreme, ordinary
 from document.hold import hold
-from document.knot import GAP_MAX, GRADE_MAX, keeps_size_rule
+from document.knot import GAP_MAX, GRADE_MAX, keeps_size_rule, number_of
 from document.piece import UNIT_OF_POSITION, value, value_distance
 from document.reel import Reel
 
@@ -34,15 +34,15 @@ def refusal_by_size(knots):
     """6 or 0: append's own test, knot by knot. No other of its causes holds of the positions and grades of a reel."""
     reel = Reel()
     for position, coefficients in knots:
-        number = reel.append(position, coefficients)
-        hold(number in (0, 6), "a knot of a sum is refused with", number, knots)
-        if number:
-            return number
+        refusal = reel.append(position, coefficients)
+        hold(number_of(refusal) in (0, 6), "a knot of a sum is refused with", refusal, knots)
+        if refusal:
+            return refusal
     return 0
 
 
 def combination(alpha, beta, reel, other):
-    """The knots of the sum in a list, or the number of its refusal."""
+    """The knots of the sum in a list, or its refusal."""
     if max(abs(alpha), abs(beta)) > MULTIPLIER_MAX:
         return 14
     if not alike(reel, other):
@@ -153,4 +153,4 @@ def hold_combinations():
                 other = Reel((position, extreme(chance, grade, greater)) for position, grade in places)
                 for most in (1, MULTIPLIER_MAX):
                     answers.append(hold_exchanged(chance.randint(-most, most), chance.randint(-most, most), reel, other))
-    return len(answers), answers.count(6)
+    return len(answers), sum(number_of(answer) == 6 for answer in answers)

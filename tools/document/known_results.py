@@ -2,7 +2,7 @@
 from document.block import WRITTEN_MAX, READINGS_MAX, block_of, block_words, knots_of
 from document.coefficients import FLAT, only
 from document.hold import hold
-from document.knot import GRADE_MAX, KNOTS_MAX
+from document.knot import GRADE_MAX, KNOTS_MAX, TooLarge
 from document.piece import Piece, case
 from document.reel import Reel
 from document.report import INPUT_MAX, report_of
@@ -42,12 +42,13 @@ def hold_known_results():
 
 
 def hold_known_refusals():
-    """The entries of "Scans with known results" that are limits, each taken at the limit and refused above it."""
+    """The entries of "Scans with known results" that are limits, each taken at the limit and refused above it; a 6 has
+    its place (request 6/14)."""
     entries = [
         ((0, 5), [Reel([(0, FLAT)]).append(h, FLAT) for h in (16, 17)]),
         ((0, 2), [Reel((k, FLAT) for k in range(count)).append(count, FLAT) for count in (128, 129)]),
-        ((0, 6), [Reel().append(0, (c,)) for c in (268_435_456, 268_435_457)]),
-        ((0, 6), [Reel([(0, FLAT)]).append(16, only(7, c)) for c in (1, 2)]),
+        ((0, TooLarge(0, 0, 1)), [Reel().append(0, (c,)) for c in (268_435_456, 268_435_457)]),
+        ((0, TooLarge(1, 7, 16)), [Reel([(0, FLAT)]).append(16, only(7, c)) for c in (1, 2)]),
         (([65_536], 7), [Reel([(10, (1,)), (12, (0,))]).value(x) for x in (2_560, 2_559)]),
         ((0, 10), [Reel(WORKED).write(bytearray(room)) for room in (40, 39)]),
     ]

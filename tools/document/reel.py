@@ -3,13 +3,16 @@ from functools import cache
 
 from document.block import block_of, knots_of
 from document.hold import hold
-from document.knot import GAP_MAX, GRADE_MAX, KNOTS_MAX, POSITION_MAX, Refused, keeps_size_rule, misplaced, oversized, too_far
+from document.knot import (
+    GAP_MAX, GRADE_MAX, KNOTS_MAX, POSITION_MAX, Refused, first_too_large, keeps_size_rule, misplaced, oversized,
+    too_far,
+)
 from document.piece import Piece, UNIT_OF_POSITION, hold_distances, hold_ends, hold_total, total, trend, value
 
 
 class Reel:
-    """Knots as pairs of a position and coefficients. Each call returns the number of its refusal, or 0; a refusal changes nothing.
-    A query returns the number of its refusal, or its answer in a list."""
+    """Knots as pairs of a position and coefficients. Each call returns its refusal, or 0: the place of a 6, and of any
+    other the number. A refusal changes nothing. A query returns the number of its refusal, or its answer in a list."""
 
     def __init__(self, knots=()):
         self.knots = list(knots)
@@ -19,6 +22,7 @@ class Reel:
         return 0
 
     def gaps_beside(self, k):
+        """The left gap and then the right; 1 of a lone knot."""
         positions = [position for position, _ in self.knots]
         gaps = [b - a for i, (a, b) in enumerate(zip(positions, positions[1:])) if k in (i, i + 1)]
         return gaps or [1]
@@ -32,8 +36,9 @@ class Reel:
             return 4
         if too_far(self.knots, position):
             return 5
-        if oversized(self.knots, position, coefficients):
-            return 6
+        too_large = oversized(self.knots, position, coefficients)
+        if too_large:
+            return too_large
         self.knots.append((position, coefficients))
         return 0
 
@@ -42,8 +47,9 @@ class Reel:
             return 9
         if not 1 <= len(coefficients) <= GRADE_MAX + 1:
             return 3
-        if not keeps_size_rule(coefficients, self.gaps_beside(k)):
-            return 6
+        too_large = first_too_large((k, coefficients, h) for h in self.gaps_beside(k))
+        if too_large:
+            return too_large
         self.knots[k] = (self.knots[k][0], coefficients)
         return 0
 

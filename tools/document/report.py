@@ -1,4 +1,5 @@
 """The report ("Reel report")."""
+from document.knot import number_of
 from document.piece import UNIT_OF_POSITION
 from document.reel import Reel
 
@@ -10,7 +11,7 @@ def report_of(block):
     if len(block) > INPUT_MAX:
         return "refused 1\n"
     reel = Reel()
-    number = reel.read(block)
+    number = number_of(reel.read(block))
     if not number and len(reel.knots) < 2:
         number = 8
     if number:

@@ -2,7 +2,7 @@
 import re
 
 from document.block import READING_MAX, READINGS_MAX
-from document.knot import Refused
+from document.knot import Refused, number_of
 from document.reel import Reel
 
 
@@ -63,7 +63,7 @@ def contents_of_text(text):
             readings.append(readings_behind(fields[colon:]))
         except Unreadable:
             raise Unreadable(line_number)
-        number = reel.append(position, coefficients) or (12 if len(readings[-1]) > READINGS_MAX else 0)
+        number = number_of(reel.append(position, coefficients)) or (12 if len(readings[-1]) > READINGS_MAX else 0)
         if number:
             raise Refused(number, line_number)
     return reel.knots, readings

@@ -4,7 +4,7 @@ from document.knot import Refused
 
 
 def view(block, k, n):
-    """The readings of knot k that it shows, in a list, or the number of its refusal: the reader's own, 9, 11."""
+    """The readings of knot k that it shows, in a list, or its refusal: the reader's own, 9, 11."""
     try:
         readings = readings_of(block)
     except Refused as refused:
@@ -17,6 +17,6 @@ def view(block, k, n):
 
 
 def view_at(block, k, n, i):
-    """The i-th of the readings shown, in a list, which is empty past the last; or the number of the view's refusal."""
+    """The i-th of the readings shown, in a list, which is empty past the last; or the view's refusal."""
     shown = view(block, k, n)
     return shown[i : i + 1] if isinstance(shown, list) else shown

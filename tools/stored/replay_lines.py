@@ -3,6 +3,7 @@ import re
 
 from document.block import block_of
 from document.combination import combination
+from document.knot import TooLarge
 from document.reel import Reel, same
 from document.text import Unreadable, signed, unsigned, whole
 from document.view import view, view_at
@@ -37,9 +38,11 @@ def line_for(name, *fields):
 
 
 def line_of(answer):
-    """A yes or no, or the number of a refusal, 0 for an accepted call."""
+    """A yes or no, or a refusal, 0 for an accepted call. Behind a 6 stands its place; the list of a knot is whole."""
     if isinstance(answer, bool):
         return "yes" if answer else "no"
+    if isinstance(answer, TooLarge):
+        return f"refused 6 {answer.knot} {answer.order} {answer.gap} whole"
     return f"refused {answer}" if answer else "accepted"
 
 

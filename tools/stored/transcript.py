@@ -5,7 +5,9 @@ from document.block import block_of, knots_of
 from document.hold import hold
 from document.readings import hold_rewritten
 from document.reel import Reel, hold_standing
-from stored.replay_lines import LENT, answer_to, hex_of, line_for, line_of, line_of_shown, line_of_sum, line_of_view
+from stored.replay_lines import (
+    LENT, answer_to, hex_of, kind_of_answer, line_for, line_of, line_of_shown, line_of_sum, line_of_view,
+)
 
 
 @cache
@@ -42,10 +44,11 @@ class Transcript:
         self.lines.append(line)
 
     def call(self, line, expected=None):
-        """It returns the answer, after which a look may stand."""
+        """It returns the answer, after which a look may stand. If only its kind is expected, a 6 may have any place."""
         before = list(self.reel.knots)
         answer = answer_to(line.encode(), self.reel)
-        hold(expected in (None, answer), line[:200], "answers", answer[:200], "and not", expected)
+        known = expected in (None, answer, kind_of_answer(answer))
+        hold(known, line[:200], "answers", answer[:200], "and not", expected)
         self.lines += [line, f"= {answer}"]
         self.answers.append(answer)
         self.turn += 1
@@ -73,9 +76,9 @@ class Transcript:
             self.unseen = 0
             self.write(length + self.turn % 3)
 
-    def expect(self, number, name, *fields):
+    def expect(self, refusal, name, *fields):
         """A call whose refusal, or 0, is known."""
-        self.call(line_for(name, *fields), line_of(number))
+        self.call(line_for(name, *fields), line_of(refusal))
 
     def try_block(self, number, block):
         """A read that is refused with this number, or accepted for 0, and then taken back."""
@@ -95,15 +98,15 @@ class Transcript:
         self.look_now_and_then()
 
     def view(self, shown, block, k, n):
-        """The view of knot k shows these readings, or is refused with this number."""
+        """The view of knot k shows these readings, or has this refusal."""
         self.call(line_for("view", block, k, n), line_of_view(shown))
 
     def view_at(self, shown, block, k, n, i):
-        """The i-th of them is the one in this list, or there is none; or the view is refused with this number."""
+        """The i-th of them is the one in this list, or there is none; or the view has this refusal."""
         self.call(line_for("viewat", block, k, n, i), line_of_shown(shown))
 
     def combine(self, answer, alpha, beta, block, other):
-        """The sum of the reels of two blocks has the knots in this list, or is refused with this number."""
+        """The sum of the reels of two blocks has the knots in this list, or has this refusal."""
         self.call(line_for("combine", alpha, beta, block, other), line_of_sum(answer))
 
     def read_sum(self):

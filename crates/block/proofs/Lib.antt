@@ -3,6 +3,7 @@ pub mod Bytes
 pub mod Steps
 pub mod Chain
 pub mod Reading
+pub mod Reason
 pub mod ReadBack
 pub mod Written
 pub mod RoundTrips

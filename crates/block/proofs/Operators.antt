@@ -56,9 +56,9 @@ readings-gone e ws = go (eqb e readingsEdition) refl
 
 -- ---- what is left of an accepted block: its header, and the words of its list
 
-knot-left : (e b n : ℕ) (last : Option Scan) (w : ℕ) (ws : List ℕ) → Taken e b n last w ws →
+knot-left : (e b k n : ℕ) (last : Option Scan) (w : ℕ) (ws : List ℕ) → Taken e b k n last w ws →
     withoutBoth (w ∷ ws) ≡ scanWords (scanFrom w ws) ++ withoutBoth (afterReadings e (behind w ws))
-knot-left e b n last w ws t =
+knot-left e b k n last w ws t =
     let knot : kind w ≡ 1 = t .kindIs in
     left w ws (λ h. absurd (omega arith)) ∙ ap (λ us. w ∷ us) (coefficients-left (grade w + 1) ws (t .coefficients)) ∙
     ap₂ (λ us vs. us ++ vs) (sym (scan-again w ws t)) (readings-gone e (behind w ws))
@@ -68,13 +68,13 @@ end-gone b [] q = refl
 end-gone b (w ∷ []) q = gone w [] (eqb-true (kind w) 3 (both-first (eqb (kind w) 3) _ (not-false (isEnd b w) (q .0))))
 end-gone b (w ∷ v ∷ ws) q = absurd (true≢false (q .0))
 
-knots-left : (e b n : ℕ) (last : Option Scan) (ws : List ℕ) → Quiet (knotsCauses e b n last ws) → withoutBoth ws ≡ knotsWords (knotsFrom e n ws)
-knots-left e b zero last ws q = end-gone b ws q
-knots-left e b (suc n) last [] q = refl
-knots-left e b (suc n) last (w ∷ ws) q =
-    let t : Taken e b n last w ws = taken e b n last w ws q in
-    knot-left e b n last w ws t ∙
-    ap (λ us. scanWords (scanFrom w ws) ++ us) (knots-left e b n (some (scanFrom w ws)) (afterReadings e (behind w ws)) (t .later))
+knots-left : (e b k n : ℕ) (last : Option Scan) (ws : List ℕ) → Quiet (knotsCauses e b k n last ws) → withoutBoth ws ≡ knotsWords (knotsFrom e n ws)
+knots-left e b k zero last ws q = end-gone b ws q
+knots-left e b k (suc n) last [] q = refl
+knots-left e b k (suc n) last (w ∷ ws) q =
+    let t : Taken e b k n last w ws = taken e b k n last w ws q in
+    knot-left e b k n last w ws t ∙
+    ap (λ us. scanWords (scanFrom w ws) ++ us) (knots-left e b (suc k) n (some (scanFrom w ws)) (afterReadings e (behind w ws)) (t .later))
 
 record Left (bs : List ℕ) : Type 0 where
   head : ℕ
@@ -90,8 +90,8 @@ left-of bs a =
     record {
       head = w;
       words-left = rw (a .wordsAre) (left w ws (λ h. absurd (omega arith)) ∙
-          ap (λ us. w ∷ us) (knots-left (edition w) (length ws) (knotCount w) none ws (a .knots)));
-      count = rw (a .wordsAre) (knots-count (edition w) (length ws) (knotCount w) none ws (a .knots));
+          ap (λ us. w ∷ us) (knots-left (edition w) (length ws) 0 (knotCount w) none ws (a .knots)));
+      count = rw (a .wordsAre) (knots-count (edition w) (length ws) 0 (knotCount w) none ws (a .knots));
     }
 
 -- "two accepted blocks that differ only in readings and end count" are read alike
@@ -101,6 +101,6 @@ alike-lists bs cs alike =
     let c : Left cs = left-of cs (accepted cs (alike .otherAccepted)) in
     let same : b .head ∷ knotsWords (listOf bs) ≡ c .head ∷ knotsWords (listOf cs) = sym (b .words-left) ∙ alike .equal ∙ c .words-left in
     let count : length (listOf bs) ≡ length (listOf cs) = b .count ∙ ap (λ ws. knotCount (getD ws 0 0)) same ∙ sym (c .count) in
-    sym (knots-back none (listOf bs) [] (chain (listOf bs) (read-standing bs (alike .oneAccepted)))) ∙
+    sym (knots-back 0 none (listOf bs) [] (chain (listOf bs) (read-standing bs (alike .oneAccepted)))) ∙
     ap₂ (λ n ws. knotsFrom plainEdition n (ws ++ [])) count (ap (drop 1) same) ∙
-    knots-back none (listOf cs) [] (chain (listOf cs) (read-standing cs (alike .otherAccepted)))
+    knots-back 0 none (listOf cs) [] (chain (listOf cs) (read-standing cs (alike .otherAccepted)))

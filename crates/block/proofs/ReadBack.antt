@@ -13,7 +13,7 @@ use Rattle.integer.specs.Within.{Within}
 use Rattle.integer.proofs.Tests.{both}
 use Rattle.rounding.specs.Limits.{sizeMax}
 use Rattle.scans.specs.Scan.{Scan, scanOf, grade as Scan·grade}
-use Rattle.scans.specs.SizeRule.{follows}
+use Rattle.scans.specs.SizeRule.{appendProducts, firstTooLarge}
 use Rattle.scans.specs.RefusalTable.{positionCauses}
 use Rattle.scans.proofs.Causes.{Quiet}
 use Rattle.block.specs.Fields.{kind, position, grade, knotSpare, knotWord, payload, coefficientWord, wordsBefore, endWord}
@@ -45,7 +45,7 @@ knotOf s = knotWord (s .position) (Scan·grade s)
 abbrev others : Scan → List ℕ → List ℕ
 others s ws = map coefficientWord (s .coefficients) ++ ws
 
-module _ {last : Option Scan} (s : Scan) (f : Fit last s) (ws : List ℕ) where
+module _ {k : ℕ} {last : Option Scan} (s : Scan) (f : Fit k last s) (ws : List ℕ) where
   near : s .position < 2 ^ 16
   near = omega (arith, f .position)
 
@@ -70,39 +70,41 @@ module _ {last : Option Scan} (s : Scan) (f : Fit last s) (ws : List ℕ) where
   after-back : drop (grade (knotOf s) + 1) (others s ws) ≡ ws
   after-back = drop-at (map coefficientWord (s .coefficients)) ws (grade (knotOf s) + 1) words-back
 
-  knot-quiet : (b n : ℕ) → Quiet (knotsCauses plainEdition b n (some s) ws) → Quiet (knotsCauses plainEdition b (suc n) last (knotOf s ∷ others s ws))
+  knot-quiet : (b n : ℕ) → Quiet (knotsCauses plainEdition b (suc k) n (some s) ws) →
+      Quiet (knotsCauses plainEdition b k (suc n) last (knotOf s ∷ others s ws))
   knot-quiet b n q =
-      untaken plainEdition b n last (knotOf s) (others s ws)
+      untaken plainEdition b k n last (knotOf s) (others s ws)
       (both (eq-eqb (kind (knotOf s)) 1 (knot-kind (s .position) (Scan·grade s) near low))
       (eq-eqb (knotSpare (knotOf s)) 0 (knot-spare (s .position) (Scan·grade s) near low)))
       (subst (λ x. Quiet (positionCauses last x)) (sym position-back) (f .placed))
       (subst (λ x. Quiet (coefficientCauses x (others s ws))) (sym length-back) (coefficients-quiet (s .coefficients) ws))
-      (ap (follows last) scan-back ∙ f .size)
-      (subst₂ (λ x us. Quiet (knotsCauses plainEdition b n (some x) us)) (sym scan-back) (sym after-back) q)
+      (ap (λ t. firstTooLarge (appendProducts k last t)) scan-back ∙ f .size)
+      (subst₂ (λ x us. Quiet (knotsCauses plainEdition b (suc k) n (some x) us)) (sym scan-back) (sym after-back) q)
 
-pub knots-quiet : (b : ℕ) → b < 2 ^ 30 → (last : Option Scan) (scans : List Scan) → Chain last scans →
-    Quiet (knotsCauses plainEdition b (length scans) last (knotsWords scans ++ endWord b ∷ []))
-knots-quiet b h last [] c = (ap not (both (eq-eqb (kind (endWord b)) 3 (end-kind b h)) (eq-eqb (wordsBefore (endWord b)) b (end-before b h))), tt)
-knots-quiet b h last (s ∷ scans) c =
-    subst (λ ws. Quiet (knotsCauses plainEdition b (suc (length scans)) last (knotOf s ∷ ws)))
+pub knots-quiet : (b : ℕ) → b < 2 ^ 30 → (k : ℕ) (last : Option Scan) (scans : List Scan) → Chain k last scans →
+    Quiet (knotsCauses plainEdition b k (length scans) last (knotsWords scans ++ endWord b ∷ []))
+knots-quiet b h k last [] c = (ap not (both (eq-eqb (kind (endWord b)) 3 (end-kind b h)) (eq-eqb (wordsBefore (endWord b)) b (end-before b h))), tt)
+knots-quiet b h k last (s ∷ scans) c =
+    subst (λ ws. Quiet (knotsCauses plainEdition b k (suc (length scans)) last (knotOf s ∷ ws)))
     (sym (append-assoc (map coefficientWord (s .coefficients)) (knotsWords scans) (endWord b ∷ [])))
-    (knot-quiet s (c .0) (knotsWords scans ++ endWord b ∷ []) b (length scans) (knots-quiet b h (some s) scans (c .1)))
+    (knot-quiet s (c .0) (knotsWords scans ++ endWord b ∷ []) b (length scans) (knots-quiet b h (suc k) (some s) scans (c .1)))
 
-pub knots-back : (last : Option Scan) (scans : List Scan) (ws : List ℕ) → Chain last scans →
+pub knots-back : (k : ℕ) (last : Option Scan) (scans : List Scan) (ws : List ℕ) → Chain k last scans →
     knotsFrom plainEdition (length scans) (knotsWords scans ++ ws) ≡ scans
-knots-back last [] ws c = refl
-knots-back last (s ∷ scans) ws c =
+knots-back k last [] ws c = refl
+knots-back k last (s ∷ scans) ws c =
     let us : List ℕ = knotsWords scans ++ ws in
     ap (λ vs. knotsFrom plainEdition (suc (length scans)) (knotOf s ∷ vs)) (append-assoc (map coefficientWord (s .coefficients)) (knotsWords scans) ws) ∙
-    ap₂ (λ t ts. t ∷ ts) (scan-back s (c .0) us) (ap (knotsFrom plainEdition (length scans)) (after-back s (c .0) us) ∙ knots-back (some s) scans ws (c .1))
+    ap₂ (λ t ts. t ∷ ts) (scan-back s (c .0) us)
+    (ap (knotsFrom plainEdition (length scans)) (after-back s (c .0) us) ∙ knots-back (suc k) (some s) scans ws (c .1))
 
 -- every word has 32 bits
 coefficients-below : (C : List ℤ) → Below (2 ^ 32) (map coefficientWord C)
 coefficients-below [] = tt
 coefficients-below (c ∷ C) = (omega (arith, twos-below c), coefficients-below C)
 
-pub knots-below : (last : Option Scan) (scans : List Scan) → Chain last scans → Below (2 ^ 32) (knotsWords scans)
-knots-below last [] c = tt
-knots-below last (s ∷ scans) c =
+pub knots-below : (k : ℕ) (last : Option Scan) (scans : List Scan) → Chain k last scans → Below (2 ^ 32) (knotsWords scans)
+knots-below k last [] c = tt
+knots-below k last (s ∷ scans) c =
     below-both (2 ^ 32) (scanWords s) (knotsWords scans)
-    (omega (arith, c .0 .position, c .0 .listed .atMost), coefficients-below (s .coefficients)) (knots-below (some s) scans (c .1))
+    (omega (arith, c .0 .position, c .0 .listed .atMost), coefficients-below (s .coefficients)) (knots-below (suc k) (some s) scans (c .1))

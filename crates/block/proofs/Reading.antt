@@ -12,9 +12,10 @@ use lib.Seq.{length-take-le}
 use Rattle.integer.proofs.Tests.{both-first, both-second}
 use Rattle.rounding.specs.Limits.{knotsMax}
 use Rattle.scans.specs.Scan.{Scan}
-use Rattle.scans.specs.SizeRule.{follows}
+use Rattle.scans.specs.SizeRule.{appendProducts, firstTooLarge, isFound}
 use Rattle.scans.specs.RefusalTable.{Cause, first, positionCauses}
 use Rattle.scans.proofs.Causes.{Quiet, quiet, quiet-both, quiet-left, quiet-right, neither, Placed, placed}
+use Rattle.scans.proofs.SizeRule.{not-found}
 use Rattle.block.specs.Fields.{kind, knotCount, edition, headerSpare, position, grade, knotSpare, payload}
 use Rattle.block.specs.Bytes.{words}
 use Rattle.block.specs.Reading.{isEdition, isHeader, isKnot, readingWords, afterReadings, lengthCauses, headerCauses, knotCauses, coefficientCauses}
@@ -40,45 +41,46 @@ header w q =
       count = ltb-false knotsMax (knotCount w) (q .1 .0);
     }
 
--- a knot with n more to come after it, and the words after its own, in a block of edition e
-pub record Taken (e before n : ℕ) (last : Option Scan) (w : ℕ) (ws : List ℕ) : Type 0 where
+-- knot k with n more to come after it, and the words after its own, in a block of edition e
+pub record Taken (e before k n : ℕ) (last : Option Scan) (w : ℕ) (ws : List ℕ) : Type 0 where
   pub kindIs : kind w ≡ 1
   pub spareIs : knotSpare w ≡ 0
   pub place : Placed last (position w)
   pub coefficients : Quiet (coefficientCauses (grade w + 1) ws)
-  pub size : follows last (scanFrom w ws) ≡ true
+  pub size : firstTooLarge (appendProducts k last (scanFrom w ws)) ≡ none
   pub readings : Quiet (readingCauses 0 (readingWords e (behind w ws)))
-  pub later : Quiet (knotsCauses e before n (some (scanFrom w ws)) (afterReadings e (behind w ws)))
+  pub later : Quiet (knotsCauses e before (suc k) n (some (scanFrom w ws)) (afterReadings e (behind w ws)))
 
-pub taken : (e before n : ℕ) (last : Option Scan) (w : ℕ) (ws : List ℕ) → Quiet (knotsCauses e before (suc n) last (w ∷ ws)) → Taken e before n last w ws
-taken e before n last w ws q =
+pub taken : (e before k n : ℕ) (last : Option Scan) (w : ℕ) (ws : List ℕ) → Quiet (knotsCauses e before k (suc n) last (w ∷ ws)) →
+    Taken e before k n last w ws
+taken e before k n last w ws q =
     let cs : List Cause = coefficientCauses (grade w + 1) ws in
-    let rest : List Cause = sizeOn e before n last (position w) (grade w) ws in
-    let all : Quiet (knotCauses last w ++ afterWord e before n last (position w) (grade w) ws) = subst Quiet (in-order e before n last w ws) q in
-    let word : Quiet (knotCauses last w) = quiet-left (knotCauses last w) (afterWord e before n last (position w) (grade w) ws) all in
+    let rest : List Cause = sizeOn e before k n last (position w) (grade w) ws in
+    let all : Quiet (knotCauses last w ++ afterWord e before k n last (position w) (grade w) ws) = subst Quiet (in-order e before k n last w ws) q in
+    let word : Quiet (knotCauses last w) = quiet-left (knotCauses last w) (afterWord e before k n last (position w) (grade w) ws) all in
     let after : Quiet (cs ++ rest) = quiet-right (knotCauses last w) (cs ++ rest) all in
     let sized : Quiet rest = quiet-right cs rest after in
     let these : List Cause = readingCauses 0 (readingWords e (behind w ws)) in
-    let next : List Cause = knotsCauses e before n (some (scanFrom w ws)) (afterReadings e (behind w ws)) in
+    let next : List Cause = knotsCauses e before (suc k) n (some (scanFrom w ws)) (afterReadings e (behind w ws)) in
     let form : isKnot w ≡ true = not-false (isKnot w) (word .0) in
     record {
       kindIs = eqb-true (kind w) 1 (both-first (eqb (kind w) 1) _ form);
       spareIs = eqb-true (knotSpare w) 0 (both-second (eqb (kind w) 1) _ form);
       place = placed last (position w) (word .1 .0) (word .1 .1 .0);
       coefficients = quiet-left cs rest after;
-      size = not-false (follows last (scanFrom w ws)) (sized .0);
+      size = not-found (firstTooLarge (appendProducts k last (scanFrom w ws))) (sized .0);
       readings = quiet-left these next (sized .1);
       later = quiet-right these next (sized .1);
     }
 
 -- and back
-pub untaken : (e before n : ℕ) (last : Option Scan) (w : ℕ) (ws : List ℕ) → isKnot w ≡ true → Quiet (positionCauses last (position w)) →
-    Quiet (coefficientCauses (grade w + 1) ws) → follows last (scanFrom w ws) ≡ true → Quiet (readingsOn e before n (scanFrom w ws) (behind w ws)) →
-    Quiet (knotsCauses e before (suc n) last (w ∷ ws))
-untaken e before n last w ws form place coefficients size later =
-    subst Quiet (sym (in-order e before n last w ws))
-    (quiet-both (knotCauses last w) (afterWord e before n last (position w) (grade w) ws) (ap not form, place)
-    (quiet-both (coefficientCauses (grade w + 1) ws) (sizeOn e before n last (position w) (grade w) ws) coefficients (ap not size, later)))
+pub untaken : (e before k n : ℕ) (last : Option Scan) (w : ℕ) (ws : List ℕ) → isKnot w ≡ true → Quiet (positionCauses last (position w)) →
+    Quiet (coefficientCauses (grade w + 1) ws) → firstTooLarge (appendProducts k last (scanFrom w ws)) ≡ none →
+    Quiet (readingsOn e before k n (scanFrom w ws) (behind w ws)) → Quiet (knotsCauses e before k (suc n) last (w ∷ ws))
+untaken e before k n last w ws form place coefficients size later =
+    subst Quiet (sym (in-order e before k n last w ws))
+    (quiet-both (knotCauses last w) (afterWord e before k n last (position w) (grade w) ws) (ap not form, place)
+    (quiet-both (coefficientCauses (grade w + 1) ws) (sizeOn e before k n last (position w) (grade w) ws) coefficients (ap isFound size, later)))
 
 -- its coefficient words are there, so its list has the grade that the word says
 coefficients-there : (n : ℕ) (ws : List ℕ) → Quiet (coefficientCauses n ws) → n ≤ length ws
@@ -96,12 +98,12 @@ pub record Accepted (bs : List ℕ) : Type 0 where
   pub wordsAre : words bs ≡ head ∷ others
   pub bytesFit : length bs % 4 ≡ 0
   pub header : Header head
-  pub knots : Quiet (knotsCauses (edition head) (length others) (knotCount head) none others)
+  pub knots : Quiet (knotsCauses (edition head) (length others) 0 (knotCount head) none others)
 
 accepted-words : (bs ws : List ℕ) → words bs ≡ ws → length bs % 4 ≡ 0 → Quiet (wordsCauses ws) → Accepted bs
 accepted-words bs [] e f q = absurd (true≢false (q .0))
 accepted-words bs (w ∷ ws) e f q =
-    let knots : List Cause = knotsCauses (edition w) (length ws) (knotCount w) none ws in
+    let knots : List Cause = knotsCauses (edition w) (length ws) 0 (knotCount w) none ws in
     record {
       head = w;
       others = ws;

@@ -37,7 +37,7 @@ coefficients-again (suc n) (w ∷ ws) q =
     ap₂ (λ u us. u ∷ us) (coefficient-again w (eqb-true (kind w) 2 (not-false (isCoefficient w) (q .0)))) (coefficients-again n ws (q .1))
 
 -- each knot's words, then those after them
-pub scan-again : {e b n : ℕ} {last : Option Scan} (w : ℕ) (ws : List ℕ) → Taken e b n last w ws → scanWords (scanFrom w ws) ≡ w ∷ take (grade w + 1) ws
+pub scan-again : {e b k n : ℕ} {last : Option Scan} (w : ℕ) (ws : List ℕ) → Taken e b k n last w ws → scanWords (scanFrom w ws) ≡ w ∷ take (grade w + 1) ws
 scan-again w ws t =
     let same : Scan·grade (scanFrom w ws) ≡ grade w = omega (arith, read-grade w ws (t .coefficients)) in
     ap₂ (λ u us. u ∷ us) (ap (knotWord (position w)) same ∙ knot-again w (t .kindIs) (t .spareIs)) (coefficients-again (grade w + 1) ws (t .coefficients))
@@ -51,29 +51,29 @@ end-word-again b (w ∷ []) q =
     ap (λ u. u ∷ []) (ap endWord (sym beforeIs) ∙ end-again w kindIs)
 end-word-again b (w ∷ v ∷ ws) q = absurd (true≢false (q .0))
 
-knots-again : (b n : ℕ) (last : Option Scan) (ws : List ℕ) → Quiet (knotsCauses plainEdition b n last ws) →
+knots-again : (b k n : ℕ) (last : Option Scan) (ws : List ℕ) → Quiet (knotsCauses plainEdition b k n last ws) →
     knotsWords (knotsFrom plainEdition n ws) ++ endWord b ∷ [] ≡ ws
-knots-again b zero last ws q = end-word-again b ws q
-knots-again b (suc n) last [] q = absurd (true≢false (q .0))
-knots-again b (suc n) last (w ∷ ws) q =
-    let t : Taken plainEdition b n last w ws = taken plainEdition b n last w ws q in
+knots-again b k zero last ws q = end-word-again b ws q
+knots-again b k (suc n) last [] q = absurd (true≢false (q .0))
+knots-again b k (suc n) last (w ∷ ws) q =
+    let t : Taken plainEdition b k n last w ws = taken plainEdition b k n last w ws q in
     let ih : knotsWords (knotsFrom plainEdition n (behind w ws)) ++ endWord b ∷ [] ≡ behind w ws =
-    knots-again b n (some (scanFrom w ws)) (behind w ws) (t .later) in
+    knots-again b (suc k) n (some (scanFrom w ws)) (behind w ws) (t .later) in
     append-assoc (scanWords (scanFrom w ws)) (knotsWords (knotsFrom plainEdition n (behind w ws))) (endWord b ∷ []) ∙
     ap₂ (λ us vs. us ++ vs) (scan-again w ws t) ih ∙ ap (λ us. w ∷ us) (take-append-drop (grade w + 1) ws)
 
-pub knots-count : (e b n : ℕ) (last : Option Scan) (ws : List ℕ) → Quiet (knotsCauses e b n last ws) → length (knotsFrom e n ws) ≡ n
-knots-count e b zero last ws q = refl
-knots-count e b (suc n) last [] q = absurd (true≢false (q .0))
-knots-count e b (suc n) last (w ∷ ws) q =
-    ap suc (knots-count e b n (some (scanFrom w ws)) (afterReadings e (behind w ws)) (taken e b n last w ws q .later))
+pub knots-count : (e b k n : ℕ) (last : Option Scan) (ws : List ℕ) → Quiet (knotsCauses e b k n last ws) → length (knotsFrom e n ws) ≡ n
+knots-count e b k zero last ws q = refl
+knots-count e b k (suc n) last [] q = absurd (true≢false (q .0))
+knots-count e b k (suc n) last (w ∷ ws) q =
+    ap suc (knots-count e b (suc k) n (some (scanFrom w ws)) (afterReadings e (behind w ws)) (taken e b k n last w ws q .later))
 
-block-again : (w : ℕ) (ws : List ℕ) → Header w → edition w ≡ plainEdition → Quiet (knotsCauses plainEdition (length ws) (knotCount w) none ws) →
+block-again : (w : ℕ) (ws : List ℕ) → Header w → edition w ≡ plainEdition → Quiet (knotsCauses plainEdition (length ws) 0 (knotCount w) none ws) →
     blockWords (knotsFrom plainEdition (knotCount w) ws) ≡ w ∷ ws
 block-again w ws h plain q =
     let scans : List Scan = knotsFrom plainEdition (knotCount w) ws in
-    let again : knotsWords scans ++ endWord (length ws) ∷ [] ≡ ws = knots-again (length ws) (knotCount w) none ws q in
-    let count : length scans ≡ knotCount w = knots-count plainEdition (length ws) (knotCount w) none ws q in
+    let again : knotsWords scans ++ endWord (length ws) ∷ [] ≡ ws = knots-again (length ws) 0 (knotCount w) none ws q in
+    let count : length scans ≡ knotCount w = knots-count plainEdition (length ws) 0 (knotCount w) none ws q in
     let long : length (openWords scans) ≡ length ws = omega (arith, length-append (knotsWords scans) (endWord (length ws) ∷ []), ap length again) in
     ap₂ (λ u us. u ∷ us) (ap₂ headerWord count (sym plain) ∙ header-again w (h .kindIs) (h .spareIs))
     (ap (λ n. knotsWords scans ++ endWord n ∷ []) long ∙ again)
@@ -87,7 +87,7 @@ accepted-written bs h q plain =
     let w : ℕ = a .head in
     let ws : List ℕ = a .others in
     let again : blockWords (knotsFrom plainEdition (knotCount w) ws) ≡ w ∷ ws =
-    block-again w ws (a .header) e (subst (λ n. Quiet (knotsCauses n (length ws) (knotCount w) none ws)) e (a .knots)) in
+    block-again w ws (a .header) e (subst (λ n. Quiet (knotsCauses n (length ws) 0 (knotCount w) none ws)) e (a .knots)) in
     ap (λ us. bytes (blockWords (listOfWords us))) (a .wordsAre) ∙ ap (λ n. bytes (blockWords (knotsFrom n (knotCount w) ws))) e ∙
     ap bytes (again ∙ sym (a .wordsAre)) ∙ bytes-again bs (a .bytesFit) h
 
@@ -108,7 +108,7 @@ header-quiet n h =
 
 module _ (scans : List Scan) (st : Standing scans) where
   open-length : length (openWords scans) < 2 ^ 30
-  open-length = omega (arith, knots-length none scans (chain scans st), st .count)
+  open-length = omega (arith, knots-length 0 none scans (chain scans st), st .count)
 
   after-length : length (knotsWords scans ++ endWord (length (openWords scans)) ∷ []) ≡ length (openWords scans)
   after-length = omega (arith, length-append (knotsWords scans) (endWord (length (openWords scans)) ∷ []))
@@ -123,15 +123,15 @@ module _ (scans : List Scan) (st : Standing scans) where
   words-quiet =
       let w : ℕ = headerWord (length scans) plainEdition in
       let ws : List ℕ = knotsWords scans ++ endWord (length (openWords scans)) ∷ [] in
-      quiet-both (headerCauses w) (knotsCauses (edition w) (length ws) (knotCount w) none ws) (header-quiet (length scans) (st .count))
-      (subst (λ e. Quiet (knotsCauses e (length ws) (knotCount w) none ws)) (sym edition-back)
-      (subst₂ (λ b n. Quiet (knotsCauses plainEdition b n none ws)) (sym after-length) (sym count-back)
-      (knots-quiet (length (openWords scans)) open-length none scans (chain scans st))))
+      quiet-both (headerCauses w) (knotsCauses (edition w) (length ws) 0 (knotCount w) none ws) (header-quiet (length scans) (st .count))
+      (subst (λ e. Quiet (knotsCauses e (length ws) 0 (knotCount w) none ws)) (sym edition-back)
+      (subst₂ (λ b n. Quiet (knotsCauses plainEdition b 0 n none ws)) (sym after-length) (sym count-back)
+      (knots-quiet (length (openWords scans)) open-length 0 none scans (chain scans st))))
 
   words-read : words (bytes (blockWords scans)) ≡ blockWords scans
   words-read =
       words-again (blockWords scans)
-      (omega (arith, st .count), below-both (2 ^ 32) (knotsWords scans) _ (knots-below none scans (chain scans st)) (omega (arith, open-length), tt))
+      (omega (arith, st .count), below-both (2 ^ 32) (knotsWords scans) _ (knots-below 0 none scans (chain scans st)) (omega (arith, open-length), tt))
 
 -- every block of scans that stand is accepted, and its list is those scans
 pub written-accepted : (scans : List Scan) → Standing scans → first (blockCauses (block scans)) ≡ none
@@ -148,4 +148,4 @@ unfolding block listOf
 written-list scans st =
     let ws : List ℕ = endWord (length (openWords scans)) ∷ [] in
     ap listOfWords (words-read scans st) ∙ ap₂ (λ e n. knotsFrom e n (knotsWords scans ++ ws)) (edition-back scans st) (count-back scans st) ∙
-    knots-back none scans ws (chain scans st)
+    knots-back 0 none scans ws (chain scans st)

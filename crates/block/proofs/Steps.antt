@@ -29,16 +29,16 @@ reading-form count w ws e = rw e refl
 
 -- ---- a knot word is due
 
--- b words stand before the end word, in a block of edition e; r knots come after the one with the scan s: its readings, and those knots
-module _ (e b r : ℕ) where
+-- b words stand before the end word, in a block of edition e; r knots come after knot k, the one with the scan s: its readings, and those knots
+module _ (e b k r : ℕ) where
   abbrev pub readingsOn : Scan → List ℕ → List Cause
-  readingsOn s ws = readingCauses 0 (readingWords e ws) ++ knotsCauses e b r (some s) (afterReadings e ws)
+  readingsOn s ws = readingCauses 0 (readingWords e ws) ++ knotsCauses e b (suc k) r (some s) (afterReadings e ws)
 
   -- what comes after the coefficient words of a knot, x and m being the fields of its word and ws the words after it: its size, and the rest
   abbrev pub sizeOn : Option Scan → ℕ → ℕ → List ℕ → List Cause
   sizeOn last x m ws =
       let s = scanOf x (map payload (take (m + 1) ws)) in
-      sizeCauses last s ++ readingsOn s (drop (m + 1) ws)
+      sizeCauses k last s ++ readingsOn s (drop (m + 1) ws)
 
   -- and from its first coefficient word on
   abbrev pub afterWord : Option Scan → ℕ → ℕ → List ℕ → List Cause
@@ -46,19 +46,19 @@ module _ (e b r : ℕ) where
 
   -- the causes of a knot, in their order: its word, its coefficient words, its size, its readings, and then those of the knots after it
   pub in-order : (last : Option Scan) (w : ℕ) (ws : List ℕ) →
-      knotsCauses e b (suc r) last (w ∷ ws) ≡ knotCauses last w ++ afterWord last (position w) (grade w) ws
+      knotsCauses e b k (suc r) last (w ∷ ws) ≡ knotCauses last w ++ afterWord last (position w) (grade w) ws
   in-order last w ws =
       let word = knotCauses last w in
       let coefficients = coefficientCauses (grade w + 1) ws in
-      let size = sizeCauses last (scanFrom w ws) in
+      let size = sizeCauses k last (scanFrom w ws) in
       let readings = readingCauses 0 (readingWords e (behind w ws)) in
-      let rest = knotsCauses e b r (some (scanFrom w ws)) (afterReadings e (behind w ws)) in
+      let rest = knotsCauses e b (suc k) r (some (scanFrom w ws)) (afterReadings e (behind w ws)) in
       append-assoc (word ++ coefficients ++ size) readings rest ∙ append-assoc (word ++ coefficients) size (readings ++ rest) ∙
       append-assoc word coefficients (size ++ (readings ++ rest))
 
   module _ (last : Option Scan) where
     pub knot-found : {n : ℕ} (ws : List ℕ) (i : ℕ) → first (knotCauses last (getD ws i 0)) ≡ some n →
-        first (knotsCauses e b (suc r) last (drop i ws)) ≡ some n
+        first (knotsCauses e b k (suc r) last (drop i ws)) ≡ some n
     knot-found [] zero h = h
     knot-found [] (suc i) h = h
     knot-found (w ∷ ws) zero h = ap first (in-order last w ws) ∙ first-found (knotCauses last w) (afterWord last (position w) (grade w) ws) h
@@ -67,7 +67,7 @@ module _ (e b r : ℕ) where
     -- no fault yet: its coefficient words come, and then its size
     pub knot-passed : (ws : List ℕ) (i : ℕ) → first (knotCauses last (getD ws i 0)) ≡ none →
         let w = getD ws i 0 in
-        first (knotsCauses e b (suc r) last (drop i ws)) ≡
+        first (knotsCauses e b k (suc r) last (drop i ws)) ≡
         first (afterWord last (position w) (grade w) (drop (suc i) ws))
     knot-passed [] zero h = absurd (Option·some-ne-none _ h)
     knot-passed [] (suc i) h = absurd (Option·some-ne-none _ h)

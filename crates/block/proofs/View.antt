@@ -3,7 +3,7 @@ use mathlib.Core.Bool.{Bool, true, false, true≢false}
 use borrow.Author.Tests.{le-leb, lt-leb, eq-eqb, ne-eqb}
 use mathlib.Core.List.{List, [], _∷_}
 use mathlib.Core.Option.{Option, none, some}
-use mathlib.Core.Path.{_≡_, refl, _∙_, ap}
+use mathlib.Core.Path.{_≡_, refl, sym, _∙_, ap}
 use Prim.Native.Nat.{ℕ, zero, suc, _+_, _-_, _*_, _≤_, _<_}
 use native.Mathlib.Omega.{arith}
 use lib.Dec.{eqb}
@@ -11,6 +11,7 @@ use lib.ListN.{length, take, drop, getElem?}
 use Rattle.scans.specs.Scan.{Scan}
 use Rattle.scans.specs.RefusalTable.{first, noKnot, zeroStride}
 use Rattle.scans.proofs.Causes.{Quiet, first-found, first-later}
+use Rattle.scans.proofs.Reason.{others}
 use Rattle.block.specs.Block.{readingsEdition}
 use Rattle.block.specs.Reading.{isReading, leadingReadings, readingWords, knotsCauses, blockCauses, listOf}
 use Rattle.block.specs.View.{viewCauses, everyAfter, everyNth}
@@ -35,6 +36,14 @@ module _ (bs : List ℕ) (k n : ℕ) where
 
     pub view-free : k < length (listOf bs) → (n ≡ 0 → ⊥) → first (viewCauses bs k n) ≡ none
     view-free h d = after-reader ∙ rw (lt-leb (length (listOf bs)) k h, ne-eqb n 0 d) refl
+
+  -- of these only the reader's own can be 6
+  pub view-six : first (viewCauses bs k n) ≡ some 6 → first (blockCauses bs) ≡ some 6
+  view-six six = go (first (blockCauses bs)) refl
+    where
+      go : (found : Option ℕ) → first (blockCauses bs) ≡ found → found ≡ some 6
+      go none e = absurd (true≢false (others (noKnot k (length (listOf bs)) ∷ zeroStride n ∷ []) (refl, (refl, tt)) (sym (after-reader e) ∙ six)))
+      go (some m) e = sym (reader-first e) ∙ six
 
 -- ---- what it shows
 
@@ -72,8 +81,8 @@ readings-first e ws = go (eqb e readingsEdition) refl
     go false h = rw h refl
 
 -- where a knot is due, there is a word
-pub knot-there : (e b n : ℕ) (last : Option Scan) (ws : List ℕ) (i : ℕ) → Quiet (knotsCauses e b (suc n) last (drop i ws)) → i < length ws
-knot-there e b n last [] zero q = absurd (true≢false (q .0))
-knot-there e b n last [] (suc i) q = absurd (true≢false (q .0))
-knot-there e b n last (w ∷ ws) zero q = omega arith
-knot-there e b n last (w ∷ ws) (suc i) q = omega (arith, knot-there e b n last ws i q)
+pub knot-there : (e b k n : ℕ) (last : Option Scan) (ws : List ℕ) (i : ℕ) → Quiet (knotsCauses e b k (suc n) last (drop i ws)) → i < length ws
+knot-there e b k n last [] zero q = absurd (true≢false (q .0))
+knot-there e b k n last [] (suc i) q = absurd (true≢false (q .0))
+knot-there e b k n last (w ∷ ws) zero q = omega arith
+knot-there e b k n last (w ∷ ws) (suc i) q = omega (arith, knot-there e b k n last ws i q)

@@ -26,15 +26,15 @@ use Rattle.block.proofs.Reading.{Taken, taken, read-grade, Accepted, ac
 
 -- ---- the bytes of a block: a knot has at most 9 words
 
-pub knots-length : (last : Option Scan) (scans : List Scan) → Chain last scans → length (knotsWords scans) ≤ 9 * length scans
-knots-length last [] c = omega arith
-knots-length last (s ∷ scans) c =
+pub knots-length : (k : ℕ) (last : Option Scan) (scans : List Scan) → Chain k last scans → length (knotsWords scans) ≤ 9 * length scans
+knots-length k last [] c = omega arith
+knots-length k last (s ∷ scans) c =
     omega (
       arith,
       length-append (scanWords s) (knotsWords scans),
       length-map (s .coefficients) coefficientWord,
       c .0 .listed .atMost,
-      knots-length (some s) scans (c .1),
+      knots-length (suc k) (some s) scans (c .1),
     )
 
 -- a header, the knots' words and the end word
@@ -50,7 +50,7 @@ block-length scans st =
       arith,
       length-bytes (blockWords scans),
       length-append (knotsWords scans) (endWord (length (openWords scans)) ∷ []),
-      knots-length none scans (chain scans st),
+      knots-length 0 none scans (chain scans st),
       st .count,
     )
 
@@ -62,24 +62,24 @@ last-new done s = sym (last-at (done ++ s ∷ []) (length done) (omega (arith, l
 read-listed : (w : ℕ) (ws : List ℕ) → length (scanFrom w ws .coefficients) ≡ grade w + 1 → Listed (scanFrom w ws .coefficients)
 read-listed w ws e = record { atLeast = omega arith; atMost = omega (arith, mod-lt (w / 2 ^ 16) {m = 2 ^ 3} (omega arith)) }
 
-knots-standing : (e b n : ℕ) (done : List Scan) (last : Option Scan) (ws : List ℕ) → Standing done → last ≡ before done (length done) →
-    length done + n ≤ knotsMax → Quiet (knotsCauses e b n last ws) → Standing (done ++ knotsFrom e n ws)
-knots-standing e b zero done last ws st l m q = rw append-nil st
-knots-standing e b (suc n) done last [] st l m q = absurd (true≢false (q .0))
-knots-standing e b (suc n) done last (w ∷ ws) st l m q =
-    let t : Taken e b n last w ws = taken e b n last w ws q in
+knots-standing : (e b k n : ℕ) (done : List Scan) (last : Option Scan) (ws : List ℕ) → Standing done → k ≡ length done → last ≡ before done (length done) →
+    length done + n ≤ knotsMax → Quiet (knotsCauses e b k n last ws) → Standing (done ++ knotsFrom e n ws)
+knots-standing e b k zero done last ws st i l m q = rw append-nil st
+knots-standing e b k (suc n) done last [] st i l m q = absurd (true≢false (q .0))
+knots-standing e b k (suc n) done last (w ∷ ws) st i l m q =
+    let t : Taken e b k n last w ws = taken e b k n last w ws q in
     let s : Scan = scanFrom w ws in
     let st′ : Standing (done ++ s ∷ []) =
-    appended-standing done s st (omega arith) (read-listed w ws (read-grade w ws (t .coefficients))) (rw l at (t .place)) (rw l at (t .size)) in
+    appended-standing done s st (omega arith) (read-listed w ws (read-grade w ws (t .coefficients))) (rw l at (t .place)) (rw (i, l) at (t .size)) in
     rw append-snoc at
-    (knots-standing e b n (done ++ s ∷ []) (some s) (afterReadings e (behind w ws)) st′ (last-new done s) (omega (arith, length-append done (s ∷ [])))
-    (t .later))
+    (knots-standing e b (suc k) n (done ++ s ∷ []) (some s) (afterReadings e (behind w ws)) st′ (omega (arith, length-append done (s ∷ []))) (last-new done s)
+    (omega (arith, length-append done (s ∷ []))) (t .later))
 
 pub read-standing : (bs : List ℕ) → first (blockCauses bs) ≡ none → Standing (listOf bs)
 unfolding listOf
 read-standing bs e =
     let a : Accepted bs = accepted bs e in
-    rw (a .wordsAre) (knots-standing (edition (a .head)) (length (a .others)) (knotCount (a .head)) [] none (a .others) standing-none refl
+    rw (a .wordsAre) (knots-standing (edition (a .head)) (length (a .others)) 0 (knotCount (a .head)) [] none (a .others) standing-none refl refl
     (omega (arith, a .header .count)) (a .knots))
 
 -- ---- the bytes of an accepted block
@@ -97,18 +97,18 @@ end-length b [] q = absurd (true≢false (q .0))
 end-length b (w ∷ []) q = refl
 end-length b (w ∷ v ∷ over) q = absurd (true≢false (q .0))
 
-words-most : (e b n : ℕ) (last : Option Scan) (ws : List ℕ) → Quiet (knotsCauses e b n last ws) → length ws ≤ knotWordsMax * n + 1
-words-most e b zero last ws q = omega (arith, end-length b ws q)
-words-most e b (suc n) last [] q = omega arith
-words-most e b (suc n) last (w ∷ ws) q =
-    let t : Taken e b n last w ws = taken e b n last w ws q in
+words-most : (e b k n : ℕ) (last : Option Scan) (ws : List ℕ) → Quiet (knotsCauses e b k n last ws) → length ws ≤ knotWordsMax * n + 1
+words-most e b k zero last ws q = omega (arith, end-length b ws q)
+words-most e b k (suc n) last [] q = omega arith
+words-most e b k (suc n) last (w ∷ ws) q =
+    let t : Taken e b k n last w ws = taken e b k n last w ws q in
     omega (
       arith,
       length-drop (grade w + 1) ws,
       mod-lt (w / 2 ^ 16) {m = 2 ^ 3} (omega arith),
       length-drop (length (readingWords e (behind w ws))) (behind w ws),
       readings-few 0 (readingWords e (behind w ws)) (omega arith) (t .readings),
-      words-most e b n (some (scanFrom w ws)) (afterReadings e (behind w ws)) (t .later),
+      words-most e b (suc k) n (some (scanFrom w ws)) (afterReadings e (behind w ws)) (t .later),
     )
 
 pub accepted-length : (bs : List ℕ) → first (blockCauses bs) ≡ none → length bs ≤ blockMax
@@ -120,5 +120,5 @@ accepted-length bs h =
       ap length (a .wordsAre),
       a .bytesFit,
       a .header .count,
-      words-most (edition (a .head)) (length (a .others)) (knotCount (a .head)) none (a .others) (a .knots),
+      words-most (edition (a .head)) (length (a .others)) 0 (knotCount (a .head)) none (a .others) (a .knots),
     )

@@ -93,19 +93,19 @@ scanFrom w ws = scanOf (position w) (map payload (take (grade w + 1) ws))
 abbrev pub behind : ℕ → List ℕ → List ℕ
 behind w ws = drop (grade w + 1) ws
 
--- in a block of edition e n knots are still to come after the last one: for each its word (1), 4, 5, its coefficient
--- words (1), 6; "a knot's readings are looked at after its 6"; then the end word
-abbrev pub knotsCauses : ℕ → ℕ → ℕ → Option Scan → List ℕ → List Cause
-knotsCauses e before zero last ws = endCauses before ws
-knotsCauses e before (suc n) last [] = badForm true ∷ []
-knotsCauses e before (suc n) last (w ∷ ws) =
-    knotCauses last w ++ coefficientCauses (grade w + 1) ws ++ sizeCauses last (scanFrom w ws) ++
+-- in a block of edition e n knots are still to come after the last one, the next of them knot k: for each its word (1),
+-- 4, 5, its coefficient words (1), 6; "a knot's readings are looked at after its 6"; then the end word
+abbrev pub knotsCauses : ℕ → ℕ → ℕ → ℕ → Option Scan → List ℕ → List Cause
+knotsCauses e before k zero last ws = endCauses before ws
+knotsCauses e before k (suc n) last [] = badForm true ∷ []
+knotsCauses e before k (suc n) last (w ∷ ws) =
+    knotCauses last w ++ coefficientCauses (grade w + 1) ws ++ sizeCauses k last (scanFrom w ws) ++
     readingCauses 0 (readingWords e (behind w ws)) ++
-    knotsCauses e before n (some (scanFrom w ws)) (afterReadings e (behind w ws))
+    knotsCauses e before (suc k) n (some (scanFrom w ws)) (afterReadings e (behind w ws))
 
 abbrev pub wordsCauses : List ℕ → List Cause
 wordsCauses [] = badForm true ∷ []
-wordsCauses (w ∷ ws) = headerCauses w ++ knotsCauses (edition w) (length ws) (knotCount w) none ws
+wordsCauses (w ∷ ws) = headerCauses w ++ knotsCauses (edition w) (length ws) 0 (knotCount w) none ws
 
 unfoldable pub blockCauses : List ℕ → List Cause
 blockCauses bs = lengthCauses (length bs) ++ wordsCauses (words bs)

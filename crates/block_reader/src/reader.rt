@@ -8,12 +8,14 @@ ghost use Rattle.scans.specs.RefusalTable.{first};
 ghost use Rattle.block.specs.Bytes.{words};
 ghost use Rattle.block.specs.Block.{block as Block·block, plainEdition};
 ghost use Rattle.block.specs.Reading.{blockCauses, editionOf, listOf};
+ghost use Rattle.knot.specs.declared.reason.Reason.the-variants as Reasons;
 ghost use Rattle.block_reader.specs.Machine.{Reads, ReadsKnots};
 use following::Neighbour;
-use following::size_cause;
+use following::follow_reason;
 use knot::COEFFICIENTS_MAX;
 use knot::KNOTS_MAX;
 use knot::Knot;
+use knot::Reason;
 use knot::Refusal;
 use word::edition;
 use word::grade;
@@ -28,11 +30,13 @@ use word_faults::header_fault;
 use word_faults::knot_fault;
 use word_faults::length_fault;
 
-// The number of the first fault, 0 where there is none; then the first `count` knots are the list.
+// The number of the first fault, 0 where there is none; then the first `count` knots are the list. And of 6 what is too
+// large.
 pub struct Contents {
     pub knots: [Knot; KNOTS_MAX],
     pub count: usize,
     pub refusal: u32,
+    pub reason: Reason,
 }
 
 // A knot for the free places.
@@ -47,13 +51,15 @@ fn free() -> Knot {
 
 // No list: a fault before the first knot.
 fn stopped(refusal: u32) -> Contents
-    ensures { λ r. ⌜ (r .refusal ≡ refusal) × (length (r .knots) ≡ knotsMax) × (r .count ≡ 0) ⌝ }
+    ensures { λ r. ⌜ (r .refusal ≡ refusal) × (length (r .knots) ≡ knotsMax) × (r .count ≡ 0)
+        × (r .reason ≡ Reasons.Nothing) ⌝ }
 {
     let none = free();
     Contents {
         knots: [none; KNOTS_MAX],
         count: 0,
         refusal,
+        reason: Reason::Nothing,
     }
 }
 
@@ -68,6 +74,7 @@ fn read_knots(block: &[u8], edition: u32, count: usize) -> Contents
         there: false,
         knot: none,
     };
+    let mut reason = Reason::Nothing;
     let mut k = 0;
     let mut i = 1;
     let refusal: u32 = 'words: loop {
@@ -95,9 +102,9 @@ fn read_knots(block: &[u8], edition: u32, count: usize) -> Contents
             grade: m as u8,
             coefficients,
         };
-        let fault = size_cause(last, next).number();
-        if fault != 0 {
-            break 'words fault;
+        if let Reason::TooLarge(spot) = follow_reason(k as u32, last, next) {
+            reason = Reason::TooLarge(spot);
+            break 'words Refusal::Size.number();
         }
         let behind = i + m + 2;
         let readings = count_readings(block, edition, behind);
@@ -117,6 +124,7 @@ fn read_knots(block: &[u8], edition: u32, count: usize) -> Contents
         knots,
         count,
         refusal,
+        reason,
     }
 }
 

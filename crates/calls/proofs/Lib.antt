@@ -6,4 +6,5 @@ pub mod Numbers
 pub mod RoundTrips
 pub mod Same
 pub mod Combination
+pub mod Reason
 pub mod KnownResults

@@ -1,6 +1,5 @@
 -- Every call leaves a list that stands, of one that stands (`Standing` of scans/specs/Standing.antt).
-use borrow.Author.Tests.{ltb-false, leb-false, not-false}
-use mathlib.Core.Bool.{true}
+use borrow.Author.Tests.{ltb-false, leb-false}
 use mathlib.Core.List.{List, [], _∷_}
 use mathlib.Core.Option.{Option, none, some}
 use mathlib.Core.Path.{_≡_, refl, sym, _∙_, ap, ap₂}
@@ -12,25 +11,26 @@ use lib.Seq.{getD-set-same, getD-set-other}
 use Rattle.rounding.specs.Limits.{knotsMax, positionMax, gapMax}
 use Rattle.rounding.specs.Size.{Listed}
 use Rattle.scans.specs.Scan.{Scan, scanOf, gap, at, before, after, leftList, rightList}
-use Rattle.scans.specs.SizeRule.{sizeRule, follows}
+use Rattle.scans.specs.SizeRule.{sizeProducts, appendProducts, firstTooLarge}
 use Rattle.scans.specs.RefusalTable.{first}
 use Rattle.scans.specs.Standing.{Standing}
 use Rattle.scans.proofs.Causes.{quiet, listed, placed}
+use Rattle.scans.proofs.SizeRule.{not-found}
 use Rattle.scans.proofs.Standing.{standing-none, appended-standing}
 use Rattle.block.proofs.Written.{read-standing}
 use Rattle.calls.specs.Calls.{Call, clear, append, correct, read, write, value, trend, total, corrected, causes, changed, kept, standingAfter}
 
--- ---- the size rule looks at the positions of the neighbours
+-- ---- of the neighbours the size rule looks at the positions alone
 
 abbrev place : Option Scan → Option Scan
 place none = none
 place (some s) = some (scanOf (s .position) [])
 
-rule-places : (l : Option Scan) (s : Scan) (r : Option Scan) → sizeRule l s r ≡ sizeRule (place l) s (place r)
-rule-places none s none = refl
-rule-places (some l) s none = refl
-rule-places none s (some r) = refl
-rule-places (some l) s (some r) = refl
+products-places : (k : ℕ) (l : Option Scan) (s : Scan) (r : Option Scan) → sizeProducts k l s r ≡ sizeProducts k (place l) s (place r)
+products-places k none s none = refl
+products-places k (some l) s none = refl
+products-places k none s (some r) = refl
+products-places k (some l) s (some r) = refl
 
 -- ---- correct: every position stays
 
@@ -42,7 +42,7 @@ got-place (x ∷ l) (suc k) t e zero = refl
 got-place (x ∷ l) (suc k) t e (suc j) = got-place l k t e j
 
 module _ (scans : List Scan) (k : ℕ) (s : Scan) (same : s .position ≡ at scans k .position) (b : k < length scans) where
-  at-set : at (set scans k s) k ≡ s
+  pub at-set : at (set scans k s) k ≡ s
   at-set = getD-set-same scans k s (scanOf 0 []) b
 
   at-other : (j : ℕ) → (j ≡ k → ⊥) → at (set scans k s) j ≡ at scans j
@@ -72,21 +72,22 @@ module _ (scans : List Scan) (k : ℕ) (s : Scan) (same : s .position ≡ at sca
   place-before zero = refl
   place-before (suc j) = got-place scans k s same j
 
-  rule-stays : (j : ℕ) (t : Scan) → sizeRule (before (set scans k s) j) t (after (set scans k s) j) ≡ sizeRule (before scans j) t (after scans j)
-  rule-stays j t =
-      rule-places (before (set scans k s) j) t (after (set scans k s) j) ∙
-      ap₂ (λ l r. sizeRule l t r) (place-before j) (got-place scans k s same (suc j)) ∙ sym (rule-places (before scans j) t (after scans j))
+  pub products-stay : (j : ℕ) (t : Scan) →
+      sizeProducts j (before (set scans k s) j) t (after (set scans k s) j) ≡ sizeProducts j (before scans j) t (after scans j)
+  products-stay j t =
+      products-places j (before (set scans k s) j) t (after (set scans k s) j) ∙
+      ap₂ (λ l r. sizeProducts j l t r) (place-before j) (got-place scans k s same (suc j)) ∙ sym (products-places j (before scans j) t (after scans j))
 
-  size-set : Standing scans → sizeRule (before scans k) s (after scans k) ≡ true → (j : ℕ) → j < length (set scans k s) →
-      sizeRule (before (set scans k s) j) (at (set scans k s) j) (after (set scans k s) j) ≡ true
+  size-set : Standing scans → firstTooLarge (sizeProducts k (before scans k) s (after scans k)) ≡ none → (j : ℕ) → j < length (set scans k s) →
+      firstTooLarge (sizeProducts j (before (set scans k s) j) (at (set scans k s) j) (after (set scans k s) j)) ≡ none
   size-set st z j h = go (ℕ-discrete j k)
     where
-      go : Dec (j ≡ k) → sizeRule (before (set scans k s) j) (at (set scans k s) j) (after (set scans k s) j) ≡ true
-      go (yes e) = rw (e, at-set) (rule-stays k s ∙ z)
-      go (no d) = rw (at-other j d) (rule-stays j (at scans j) ∙ st .size j (omega (arith, length-set scans k s)))
+      go : Dec (j ≡ k) → firstTooLarge (sizeProducts j (before (set scans k s) j) (at (set scans k s) j) (after (set scans k s) j)) ≡ none
+      go (yes e) = rw (e, at-set) (ap firstTooLarge (products-stay k s) ∙ z)
+      go (no d) = rw (at-other j d) (ap firstTooLarge (products-stay j (at scans j)) ∙ st .size j (omega (arith, length-set scans k s)))
 
   corrected-standing : Standing scans → Listed (s .coefficients) →
-      sizeRule (before scans k) s (after scans k) ≡ true → Standing (set scans k s)
+      firstTooLarge (sizeProducts k (before scans k) s (after scans k)) ≡ none → Standing (set scans k s)
   corrected-standing st c z = record {
     count = rw (length-set scans k s) (st .count);
     position = old-or-set (λ t. t .position ≤ positionMax) (st .position) (rw same (st .position k b));
@@ -105,12 +106,12 @@ changed-standing (append x C) scans st e =
     let q = quiet (causes (append x C) scans) e in
     let last = before scans (length scans) in
     appended-standing scans (scanOf x C) st (ltb-false knotsMax (length scans + 1) (q .0)) (listed C (q .1 .0))
-    (placed last x (q .1 .1 .0) (q .1 .1 .1 .0)) (not-false (follows last (scanOf x C)) (q .1 .1 .1 .1 .0))
+    (placed last x (q .1 .1 .0) (q .1 .1 .1 .0)) (not-found (firstTooLarge (appendProducts (length scans) last (scanOf x C))) (q .1 .1 .1 .1 .0))
 changed-standing (correct k C) scans st e =
     let q = quiet (causes (correct k C) scans) e in
     let s = corrected scans k C in
     corrected-standing scans k s refl (leb-false (length scans) k (q .0)) st (listed C (q .1 .0))
-    (not-false (sizeRule (before scans k) s (after scans k)) (q .1 .1 .0))
+    (not-found (firstTooLarge (sizeProducts k (before scans k) s (after scans k))) (q .1 .1 .0))
 changed-standing (read bytes) scans st e = read-standing bytes e
 changed-standing (write out) scans st e = st
 changed-standing (value x) scans st e = st

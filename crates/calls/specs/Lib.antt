@@ -1,4 +1,5 @@
 pub mod Calls
 pub mod Same
 pub mod Combination
+pub mod Reason
 pub mod KnownResults

@@ -10,11 +10,12 @@ use Rattle.integer.specs.Within.{Within}
 use Rattle.rounding.specs.Limits.{sizeMax, multiplierMax}
 use Rattle.scans.specs.Scan.{Scan, scanOf}
 use Rattle.scans.specs.Standing.{Standing}
-use Rattle.scans.specs.SizeRule.{eachFollows}
+use Rattle.scans.specs.SizeRule.{turnProducts, firstTooLarge}
 use Rattle.scans.specs.RefusalTable.{Cause, first, badSize}
+use Rattle.scans.specs.Reason.{reason as Reason·reason}
 use Rattle.scans.specs.Combination.{allAligned, combination}
 use Rattle.scans.specs.Order.{combinationCauses}
-use Rattle.knot.specs.Machine.{Filled, refusal, scansIn}
+use Rattle.knot.specs.Machine.{Filled, refusal, scansIn, spotIn}
 use Rattle.knot.specs.declared.held.Knot.{Knot}
 use Rattle.combination.specs.declared.sum.Sum.{Sum}
 
@@ -35,15 +36,17 @@ pub record Summable (α β : ℤ) (knots others : List Knot) (count : ℕ) : Typ
   pub standing : Standing (scansIn count knots)
   pub aligned : allAligned (scansIn count knots) (scansIn count others) ≡ true
 
--- the first of the causes; and where none holds, so many knots with these scans
+-- the first of the causes; where none holds, so many knots with these scans; and the reason, where a 6 is it
 pub record Sums (r : Sum) (count : ℕ) (causes : List Cause) (scans : List Scan) : Type 0 where
   pub verdict : refusal (r .verdict) ≡ first causes
   pub filled : first causes ≡ none → Filled (r .knots) count
   pub are : first causes ≡ none → scansIn count (r .knots) ≡ scans
+  pub reason : spotIn (r .reason) ≡ Reason·reason (first causes) (turnProducts 0 none scans)
 
 -- of scans with the same positions and grades: 6; and of all: 14, 13, 6
 abbrev pub SumsKnots : Sum → ℕ → ℤ → ℤ → List Scan → List Scan → Type 0
-SumsKnots r count α β A B = let C = combination α β A B in Sums r count (badSize (eachFollows C) ∷ []) C
+SumsKnots r count α β A B =
+    let C = combination α β A B in Sums r count (badSize (firstTooLarge (turnProducts 0 none C)) ∷ []) C
 
 abbrev pub SumsReels : Sum → ℕ → ℤ → ℤ → List Scan → List Scan → Type 0
 SumsReels r count α β A B = Sums r count (combinationCauses α β A B) (combination α β A B)

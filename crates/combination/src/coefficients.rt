@@ -13,7 +13,7 @@ use knot::SIZE_MAX;
 use magnitude::magnitude;
 
 // One coefficient as a knot holds it. One above 2^28 in size breaks the size rule at every gap; it is tested before it
-// is narrowed, and 2^28 + 1 stands for it, which breaks the rule at every gap too.
+// is narrowed, and 2^28 + 1 stands for it, which breaks the rule at every gap too: so the same order is named.
 fn coefficient(alpha: i32, a: i32, beta: i32, b: i32) -> i32
     requires { ⌜ (Within multiplierMax alpha) × (Within multiplierMax beta) ⌝ }
     ensures { λ r. ⌜ r ≡ limited (alpha *ℤ a +ℤ beta *ℤ b) ⌝ }

@@ -11,18 +11,20 @@ ghost use Rattle.combination.specs.Machine.{Summable, SumsKnots, SumsRee
 use crate::coefficients::combined_list;
 use comparison::all_aligned;
 use following::Neighbour;
-use following::size_cause;
+use following::follow_reason;
 use knot::KNOTS_MAX;
 use knot::Knot;
 use knot::MULTIPLIER_MAX;
+use knot::Reason;
 use knot::Refusal;
 use knot::Verdict;
 use magnitude::magnitude;
 
-// What is found of a sum: the first cause that refuses it, or else its knots.
+// What is found of a sum: the first cause that refuses it, or else its knots; and of 6 what is too large.
 pub struct Sum {
     pub knots: [Knot; KNOTS_MAX],
     pub verdict: Verdict,
+    pub reason: Reason,
 }
 
 // The sum of two knots at one position and of one grade.
@@ -61,10 +63,11 @@ fn summed(
         let mine = knots[k];
         let its = others[k];
         let next = combined_knot(alpha, mine, beta, its);
-        if let Verdict::Refused(cause) = size_cause(last, next) {
+        if let Reason::TooLarge(spot) = follow_reason(k as u32, last, next) {
             return Sum {
                 knots,
-                verdict: Verdict::Refused(cause),
+                verdict: Verdict::Refused(Refusal::Size),
+                reason: Reason::TooLarge(spot),
             };
         }
         knots[k] = next;
@@ -77,6 +80,7 @@ fn summed(
     Sum {
         knots,
         verdict: Verdict::Passed,
+        reason: Reason::Nothing,
     }
 }
 
@@ -110,12 +114,14 @@ pub fn combine(
         return Sum {
             knots,
             verdict: Verdict::Refused(cause),
+            reason: Reason::Nothing,
         };
     }
     if !all_aligned(knots, count, others, other_count) {
         return Sum {
             knots,
             verdict: Verdict::Refused(Refusal::Unlike),
+            reason: Reason::Nothing,
         };
     }
     summed(alpha, knots, beta, others, count)

@@ -1,14 +1,17 @@
-// What refuses a new knot, causes 3 to 6 of the refusal table, and the size rule of a knot between its neighbours.
+// What refuses a new knot: causes 3 to 5 of the refusal table; and for 6 what is too large, of a knot after the last
+// one or between its neighbours.
 ghost use mathlib.Core.Bool.{true};
 ghost use mathlib.Core.Path.{_≡_};
-ghost use Rattle.scans.specs.SizeRule.{sizeRule};
-ghost use Rattle.scans.specs.RefusalTable.{first, listCauses, positionCauses, sizeCauses};
-ghost use Rattle.knot.specs.Machine.{Graded, refusal, scan};
+ghost use Prim.Native.Nat.{_≤_};
+ghost use Rattle.scans.specs.SizeRule.{appendProducts, firstTooLarge, sizeProducts};
+ghost use Rattle.scans.specs.RefusalTable.{first, listCauses, positionCauses};
+ghost use Rattle.knot.specs.Machine.{Graded, refusal, scan, spotIn};
 ghost use Rattle.following.specs.Machine.{CloseAfter, CloseBefore, neighbour};
 use knot::COEFFICIENTS_MAX;
 use knot::GAP_MAX;
 use knot::Knot;
 use knot::POSITION_MAX;
+use knot::Reason;
 use knot::Refusal;
 use knot::Verdict;
 use knot::gap;
@@ -52,33 +55,33 @@ pub fn position_cause(last: Neighbour, position: u32) -> Verdict
     Verdict::Passed
 }
 
-// The size rule of a knot between its neighbours.
-pub fn size_rule(left: Neighbour, knot: Knot, right: Neighbour) -> bool
+// What is too large of knot k between its neighbours: with the left gap, then with the right.
+pub fn size_reason(k: u32, left: Neighbour, knot: Knot, right: Neighbour) -> Reason
     requires { ⌜ (Graded knot) × (CloseBefore left (knot .position)) × (CloseAfter (knot .position) right) ⌝ }
-    ensures { λ b. ⌜ b ≡ sizeRule (neighbour left) (scan knot) (neighbour right) ⌝ }
+    ensures { λ r. ⌜ spotIn r ≡ firstTooLarge (sizeProducts k (neighbour left) (scan knot) (neighbour right)) ⌝ }
 {
     let position = knot.position;
     if left.there {
         let before = left.knot.position;
-        let kept = knot.left_sized(gap(before, position));
-        if !kept {
-            return false;
+        if let Reason::TooLarge(spot) = knot.left_reason(k, gap(before, position)) {
+            return Reason::TooLarge(spot);
         }
     }
     if right.there {
         let after = right.knot.position;
-        return knot.right_sized(gap(position, after));
+        return knot.right_reason(k, gap(position, after));
     }
     if left.there {
-        return true;
+        return Reason::Nothing;
     }
-    knot.left_sized(1)
+    knot.left_reason(k, 1)
 }
 
-// Of a knot after the last one: 6, of the held knot at the new gap, then of the new knot.
-pub fn size_cause(last: Neighbour, next: Knot) -> Verdict
-    requires { ⌜ (Graded next) × (last .there ≡ true → Graded (last .knot)) × (CloseBefore last (next .position)) ⌝ }
-    ensures { λ v. ⌜ refusal v ≡ first (sizeCauses (neighbour last) (scan next)) ⌝ }
+// Of knot k after the last one: of the held knot with the new gap, then of the new knot.
+pub fn follow_reason(k: u32, last: Neighbour, next: Knot) -> Reason
+    requires { ⌜ (Graded next) × (last .there ≡ true → (Graded (last .knot)) × (1 ≤ k))
+        × (CloseBefore last (next .position)) ⌝ }
+    ensures { λ r. ⌜ spotIn r ≡ firstTooLarge (appendProducts k (neighbour last) (scan next)) ⌝ }
 {
     let nothing = Neighbour {
         there: false,
@@ -88,12 +91,9 @@ pub fn size_cause(last: Neighbour, next: Knot) -> Verdict
         let held = last.knot;
         let from = held.position;
         let to = next.position;
-        if !held.right_sized(gap(from, to)) {
-            return Verdict::Refused(Refusal::Size);
+        if let Reason::TooLarge(spot) = held.right_reason(k - 1, gap(from, to)) {
+            return Reason::TooLarge(spot);
         }
     }
-    if !size_rule(last, next, nothing) {
-        return Verdict::Refused(Refusal::Size);
-    }
-    Verdict::Passed
+    size_reason(k, last, next, nothing)
 }

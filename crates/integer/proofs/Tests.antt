@@ -1,6 +1,9 @@
--- What the tests say: `each` is true exactly where every number below the bound passes, `equal` where the numbers are equal.
+-- What the tests say: `each` is true exactly where every number below the bound passes, `equal` where the numbers are equal; and what
+-- `firstOf` finds in two lists one after the other.
 use borrow.Author.Tests.{eqb-true, eq-eqb, ne-eqb}
-use mathlib.Core.Bool.{Bool, true, false, _&&_, true≢false}
+use mathlib.Core.Bool.{Bool, true, false, _&&_, cond, true≢false}
+use mathlib.Core.List.{List, [], _∷_, _++_}
+use mathlib.Core.Option.{Option, none, some, Option·some-ne-none}
 use mathlib.Core.Path.{_≡_, refl, sym, _∙_, ap}
 use Prim.Native.Nat.{ℕ, zero, suc, _<_}
 use native.Mathlib.Decide.{ℕ-discrete}
@@ -10,7 +13,7 @@ use lib.IntN.{ℤ, pos, negsuc, ℤ-discrete}
 use mir.Syntax.{Width}
 use mir.Val.{SFits, toZ, ofZ}
 use mir.Facts.{toZ-ofZ}
-use Rattle.integer.specs.Tests.{each, equal}
+use Rattle.integer.specs.Tests.{each, equal, firstOf}
 
 -- both of two tests
 pub both-first : (a b : Bool) → (a && b) ≡ true → a ≡ true
@@ -68,3 +71,49 @@ same-bits w x y f g = go (ℤ-discrete x y)
     go : Dec (x ≡ y) → eqb (ofZ w x) (ofZ w y) ≡ equal x y
     go (yes e) = rw e (eq-eqb (ofZ w y) (ofZ w y) refl ∙ sym (equal-self y))
     go (no e) = ne-eqb (ofZ w x) (ofZ w y) (λ q. e (sym (toZ-ofZ f) ∙ ap (toZ w) q ∙ toZ-ofZ g)) ∙ sym (not-yes (equal x y) (λ q. e (equal→eq x y q)))
+
+-- ---- the first that passes
+
+none-first : {B : Type 0} (b : Bool) (x : B) (rest : Option B) → cond b (some x) rest ≡ none → (b ≡ false) × (rest ≡ none)
+none-first true x rest e = absurd (Option·some-ne-none _ e)
+none-first false x rest e = (refl, e)
+
+some-first : {B : Type 0} (b : Bool) (x : B) {y : B} (now later : Option B) → (now ≡ some y → later ≡ some y) →
+    cond b (some x) now ≡ some y → cond b (some x) later ≡ some y
+some-first true x now later f e = e
+some-first false x now later f e = f e
+
+module _ {A : Type 0} (test : A → Bool) where
+  -- none passes
+  abbrev pub NonePasses : List A → Type 0
+  NonePasses [] = Unit
+  NonePasses (x ∷ xs) = (test x ≡ false) × NonePasses xs
+
+  pub none-both : (xs ys : List A) → NonePasses xs → NonePasses ys → NonePasses (xs ++ ys)
+  none-both [] ys p q = q
+  none-both (x ∷ xs) ys p q = (p .0, none-both xs ys (p .1) q)
+
+  pub none-left : (xs ys : List A) → NonePasses (xs ++ ys) → NonePasses xs
+  none-left [] ys q = tt
+  none-left (x ∷ xs) ys q = (q .0, none-left xs ys (q .1))
+
+  pub none-right : (xs ys : List A) → NonePasses (xs ++ ys) → NonePasses ys
+  none-right [] ys q = q
+  none-right (x ∷ xs) ys q = none-right xs ys (q .1)
+
+  module _ {B : Type 0} (told : A → B) where
+    pub none-passes : (xs : List A) → firstOf test told xs ≡ none → NonePasses xs
+    none-passes [] e = tt
+    none-passes (x ∷ xs) e = let p = none-first (test x) (told x) (firstOf test told xs) e in (p .0, none-passes xs (p .1))
+
+    pub no-first : (xs : List A) → NonePasses xs → firstOf test told xs ≡ none
+    no-first [] q = refl
+    no-first (x ∷ xs) q = rw (q .0) (no-first xs (q .1))
+
+    pub firstOf-found : {y : B} (xs ys : List A) → firstOf test told xs ≡ some y → firstOf test told (xs ++ ys) ≡ some y
+    firstOf-found [] ys e = absurd (Option·some-ne-none _ (sym e))
+    firstOf-found (x ∷ xs) ys e = some-first (test x) (told x) (firstOf test told xs) (firstOf test told (xs ++ ys)) (firstOf-found xs ys) e
+
+    pub firstOf-later : (xs ys : List A) → firstOf test told xs ≡ none → firstOf test told (xs ++ ys) ≡ firstOf test told ys
+    firstOf-later [] ys e = refl
+    firstOf-later (x ∷ xs) ys e = let p = none-first (test x) (told x) (firstOf test told xs) e in rw (p .0) (firstOf-later xs ys (p .1))

@@ -1,5 +1,7 @@
--- Tests on whole numbers, as yes or no.
-use mathlib.Core.Bool.{Bool, true, false, _&&_}
+-- Tests, as yes or no, on whole numbers; and the first of a list that passes a test.
+use mathlib.Core.Bool.{Bool, true, false, _&&_, cond}
+use mathlib.Core.List.{List, [], _∷_}
+use mathlib.Core.Option.{Option, none, some}
 use Prim.Native.Nat.{ℕ, zero, suc}
 use lib.Dec.{eqb}
 use lib.IntN.{ℤ, pos, negsuc}
@@ -15,3 +17,8 @@ equal (pos a) (pos b) = eqb a b
 equal (pos a) (negsuc b) = false
 equal (negsuc a) (pos b) = false
 equal (negsuc a) (negsuc b) = eqb a b
+
+-- the first of a list that passes a test: what `told` says of it
+abbrev pub firstOf : {A B : Type 0} → (A → Bool) → (A → B) → List A → Option B
+firstOf test told [] = none
+firstOf test told (x ∷ xs) = cond (test x) (some (told x)) (firstOf test told xs)

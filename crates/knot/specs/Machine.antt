@@ -1,4 +1,4 @@
--- What the machine's knots and verdicts are in the model.
+-- What the machine's knots, verdicts and reasons are in the model.
 use mathlib.Core.List.{List, [], map}
 use mathlib.Core.Option.{Option, none, some}
 use mathlib.Core.Path.{_≡_}
@@ -6,7 +6,10 @@ use Prim.Native.Nat.{ℕ, zero, suc, _+_, _≤_, _<_}
 use lib.ListN.{length, take, getD}
 use Rattle.rounding.specs.Limits.{knotsMax, gradeMax}
 use Rattle.scans.specs.Scan.{Scan}
+use Rattle.scans.specs.SizeRule.{Spot}
 use Rattle.knot.specs.declared.held.Knot.{Knot}
+use Rattle.knot.specs.declared.reason.Reason.{Reason}
+use Rattle.knot.specs.declared.reason.Reason.the-variants as Reasons
 use Rattle.knot.specs.declared.table.Refusal.{Refusal}
 use Rattle.knot.specs.declared.table.Refusal.the-variants as Refusals
 use Rattle.knot.specs.declared.table.Verdict.{Verdict}
@@ -38,6 +41,11 @@ pub record Filled (knots : List Knot) (n : ℕ) : Type 0 where
   pub room : length knots ≡ knotsMax
   pub count : n ≤ knotsMax
   pub graded : (k : ℕ) → k < n → Graded (knotIn knots k)
+
+-- the spot that a reason names
+abbrev pub spotIn : Reason → Option Spot
+spotIn Reasons.Nothing = none
+spotIn (Reasons.TooLarge s) = some (record { knot = s .knot; order = s .order; gap = s .gap })
 
 -- the documents' number of each cause
 abbrev pub number : Refusal → ℕ

@@ -3,11 +3,13 @@ ghost use mathlib.Core.Path.{_≡_};
 ghost use Prim.Native.Nat.{_+_, _-_, _≤_};
 ghost use lib.ListN.{length, take};
 ghost use Rattle.rounding.specs.Limits.{gapMax, gradeMax};
-ghost use Rattle.rounding.specs.Size.{Listed, sized as Size·sized};
+ghost use Rattle.rounding.specs.Size.{Listed};
 ghost use Rattle.scans.specs.Scan.{leftList, moisture as Scan·moisture, rightList, scanOf};
-ghost use Rattle.knot.specs.Machine.{scan, Graded, Holds};
+ghost use Rattle.scans.specs.SizeRule.{firstTooLarge, products};
+ghost use Rattle.knot.specs.Machine.{scan, Graded, Holds, spotIn};
 use crate::limits::COEFFICIENTS_MAX;
-use crate::size::sized;
+use crate::reason::Reason;
+use crate::size::list_reason;
 
 // The coefficients past the grade are free: no promise speaks of them.
 pub struct Knot {
@@ -16,13 +18,13 @@ pub struct Knot {
     pub coefficients: [i32; COEFFICIENTS_MAX],
 }
 
-// The size rule for the list that a knot of this grade has.
-fn list_sized(grade: u8, c: [i32; COEFFICIENTS_MAX], h: u64) -> bool
+// What is too large of the list that a knot of this grade has, where it is knot k and the gap is h.
+fn graded_reason(k: u32, grade: u8, c: [i32; COEFFICIENTS_MAX], h: u64) -> Reason
     requires { ⌜ (grade ≤ gradeMax) × (length c ≡ gradeMax + 1) × (h ≤ gapMax) ⌝ }
-    ensures { λ b. ⌜ b ≡ Size·sized h (take (grade + 1) c) ⌝ }
+    ensures { λ r. ⌜ spotIn r ≡ firstTooLarge (products k h (take (grade + 1) c)) ⌝ }
 {
     let n = grade as usize + 1;
-    sized(h, &c[..n])
+    list_reason(k, h, &c[..n])
 }
 
 impl Knot {
@@ -44,23 +46,23 @@ impl Knot {
         }
     }
 
-    // The size rule for the list that serves the piece on the knot's left, of h steps. Its name and the next wait for
-    // request 8/14, which gives a knot two lists.
-    pub fn left_sized(self, h: u64) -> bool
+    // What is too large of the list that serves the piece on the left of knot k, of h steps. Its name and the next wait
+    // for request 8/14, which gives a knot two lists.
+    pub fn left_reason(self, k: u32, h: u64) -> Reason
         requires { ⌜ (Graded self) × (h ≤ gapMax) ⌝ }
-        ensures { λ b. ⌜ b ≡ Size·sized h (leftList (scan self)) ⌝ }
+        ensures { λ r. ⌜ spotIn r ≡ firstTooLarge (products k h (leftList (scan self))) ⌝ }
     {
         let c = self.coefficients;
-        list_sized(self.grade, c, h)
+        graded_reason(k, self.grade, c, h)
     }
 
     // The same for the piece on its right.
-    pub fn right_sized(self, h: u64) -> bool
+    pub fn right_reason(self, k: u32, h: u64) -> Reason
         requires { ⌜ (Graded self) × (h ≤ gapMax) ⌝ }
-        ensures { λ b. ⌜ b ≡ Size·sized h (rightList (scan self)) ⌝ }
+        ensures { λ r. ⌜ spotIn r ≡ firstTooLarge (products k h (rightList (scan self))) ⌝ }
     {
         let c = self.coefficients;
-        list_sized(self.grade, c, h)
+        graded_reason(k, self.grade, c, h)
     }
 
     // C_0, the moisture at the knot.

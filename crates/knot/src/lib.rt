@@ -1,6 +1,7 @@
-// A knot, the size rule of one list, the limits, and the refusals.
+// A knot, the size rule of one list, the limits, the refusals, and the reason of a 6.
 mod held;
 mod limits;
+mod reason;
 mod size;
 mod table;
 
@@ -14,6 +15,8 @@ pub use limits::MULTIPLIER_MAX;
 pub use limits::POSITION_MAX;
 pub use limits::READINGS_MAX;
 pub use limits::SIZE_MAX;
-pub use size::sized;
+pub use reason::Reason;
+pub use reason::Spot;
+pub use size::list_reason;
 pub use table::Refusal;
 pub use table::Verdict;

@@ -3,23 +3,36 @@ ghost use mathlib.Core.Path.{_≡_};
 ghost use Prim.Native.Nat.{_+_, _≤_};
 ghost use lib.ListN.{length};
 ghost use Rattle.rounding.specs.Limits.{gapMax, gradeMax};
-ghost use Rattle.rounding.specs.Size.{sized as Size·sized};
+ghost use Rattle.scans.specs.SizeRule.{firstTooLarge, products};
+ghost use Rattle.knot.specs.Machine.{spotIn};
 use crate::limits::SIZE_MAX;
-use magnitude::magnitude;
+use crate::reason::Reason;
+use crate::reason::Spot;
 
-// Each |C_j| × h^j is at most 2^28.
-pub fn sized(h: u64, c: &[i32]) -> bool
+// The limit of C_j × h^j, above 0 and below.
+const MOST: i64 = SIZE_MAX as i64;
+
+const LEAST: i64 = 0 - MOST;
+
+// What is too large of the list of knot k with the gap h: the first order j of which |C_j| × h^j exceeds 2^28. |C_j| is
+// not formed: C_j × h^j is compared on both sides of 0, and of the two comparisons the compiler makes one.
+pub fn list_reason(k: u32, h: u64, c: &[i32]) -> Reason
     requires { ⌜ (h ≤ gapMax) × (length (now c) ≤ gradeMax + 1) ⌝ }
-    ensures { λ b. ⌜ b ≡ Size·sized h (now (c .entry)) ⌝ }
+    ensures { λ r. ⌜ spotIn r ≡ firstTooLarge (products k h (now (c .entry))) ⌝ }
 {
-    let mut power = 1;
+    let mut power: u64 = 1;
     let mut j = 0;
     while j < c.len() {
-        if SIZE_MAX < magnitude(c[j] as i64) * power {
-            return false;
+        let product = power as i64 * c[j] as i64;
+        if MOST < product || product < LEAST {
+            return Reason::TooLarge(Spot {
+                knot: k,
+                order: j as u32,
+                gap: h as u32,
+            });
         }
         power *= h;
         j += 1;
     }
-    true
+    Reason::Nothing
 }

@@ -7,7 +7,8 @@ ghost use Rattle.rounding.specs.Piece.{piece, positionUnit};
 ghost use Rattle.rounding.specs.Size.{Admitted};
 use knot::COEFFICIENTS_MAX;
 use knot::GAP_MAX;
-use knot::sized;
+use knot::Reason;
+use knot::list_reason;
 use rounding::POSITION_UNIT;
 
 pub fn admitted(h: u64, left: &[i32], right: &[i32], r: u64) -> bool
@@ -35,8 +36,11 @@ pub fn admitted(h: u64, left: &[i32], right: &[i32], r: u64) -> bool
     if COEFFICIENTS_MAX < right.len() {
         return false;
     }
-    if !sized(h, left) {
+    if let Reason::TooLarge(_) = list_reason(0, h, left) {
         return false;
     }
-    sized(h, right)
+    if let Reason::TooLarge(_) = list_reason(1, h, right) {
+        return false;
+    }
+    true
 }

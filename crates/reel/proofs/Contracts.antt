@@ -1,5 +1,5 @@
 -- The contract of each call of a sequence is `Does` of that call: what its function requires is that the reel is held, and what it ensures is
--- the promise. A contract that says less is refused here.
+-- the promise. So are those of the sum and of the questions for a reason what is promised of them. A contract that says less is refused here.
 use contract.Lifetimes.{Lfts}
 use denote.Ref.{RefT, now}
 use mathlib.Core.List.{List, []}
@@ -8,7 +8,10 @@ use Prim.Native.Nat.{ℕ}
 use lib.IntN.{ℤ}
 use Rattle.block.specs.Block.{plainEdition, block}
 use Rattle.block.specs.Reading.{editionOf}
+use Rattle.knot.specs.Machine.{spotIn}
+use Rattle.knot.specs.declared.reason.Reason.{Reason}
 use Rattle.calls.specs.Calls.{accepted, clear, append, correct, read, write, value, trend, total}
+use Rattle.calls.specs.Reason.{reasonFor, sumReason}
 use Rattle.reel.specs.Machine.{scans, Held, replyOf, Does, Combines}
 use Rattle.reel.specs.declared.held.Reel.{Reel}
 use Rattle.reel.specs.declared.answer.Handed.{Handed}
@@ -22,6 +25,10 @@ use Rattle.reel.proofs.held.Reel.value.Reads as value-reads
 use Rattle.reel.proofs.held.Reel.trend.Reads as trend-reads
 use Rattle.reel.proofs.held.Reel.total.Reads as total-reads
 use Rattle.reel.proofs.held.Reel.combine.Reads as combine-reads
+use Rattle.reel.proofs.held.Reel.append_reason.Reads as append-reason-reads
+use Rattle.reel.proofs.held.Reel.correct_reason.Reads as correct-reason-reads
+use Rattle.reel.proofs.held.Reel.read_reason.Reads as read-reason-reads
+use Rattle.reel.proofs.held.Reel.combine_reason.Reads as combine-reason-reads
 
 -- what a sequence begins with
 pub empty-is : (begin : Reel) → empty-reads.Post tt tt begin tt → (Held begin) × (scans begin ≡ [])
@@ -75,3 +82,26 @@ pub combine-combines : (α β : ℤ) (given other : Reel) (handed : Handed) → 
     combine-reads.Post tt (given, (α, (β, (other, tt)))) handed (given, (α, (β, (other, tt))))) →
     Combines α β given other (handed .answer) (handed .reel)
 combine-combines α β given other handed held held-other contract = contract (held, held-other)
+
+-- and that of each question is that its reason is the model's
+module _ (given : Reel) (reason : Reason) (held : Held given) where
+  pub append-reasons : (κs : Lfts 1) (x : ℕ) (C : RefT (List ℤ)) →
+      (append-reason-reads.Pre κs (given, (x, (C, tt))) → append-reason-reads.Post κs (given, (x, (C, tt))) reason (given, (x, (C, tt)))) →
+      spotIn reason ≡ reasonFor (append x (now C)) (scans given)
+  append-reasons κs x C contract = contract held
+
+  pub correct-reasons : (κs : Lfts 1) (k : ℕ) (C : RefT (List ℤ)) →
+      (correct-reason-reads.Pre κs (given, (k, (C, tt))) → correct-reason-reads.Post κs (given, (k, (C, tt))) reason (given, (k, (C, tt)))) →
+      spotIn reason ≡ reasonFor (correct k (now C)) (scans given)
+  correct-reasons κs k C contract = contract held
+
+  pub read-reasons : (κs : Lfts 1) (bytes : RefT (List ℕ)) →
+      (read-reason-reads.Pre κs (given, (bytes, tt)) → read-reason-reads.Post κs (given, (bytes, tt)) reason (given, (bytes, tt))) →
+      spotIn reason ≡ reasonFor (read (now bytes)) (scans given)
+  read-reasons κs bytes contract = contract held
+
+  pub combine-reasons : (α β : ℤ) (other : Reel) → Held other →
+      (combine-reason-reads.Pre tt (given, (α, (β, (other, tt)))) →
+      combine-reason-reads.Post tt (given, (α, (β, (other, tt)))) reason (given, (α, (β, (other, tt))))) →
+      spotIn reason ≡ sumReason α β (scans given) (scans other)
+  combine-reasons α β other held-other contract = contract (held, held-other)

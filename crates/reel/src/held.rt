@@ -29,8 +29,8 @@ use knot::Verdict;
 
 // The first `count` knots are the list; the others are free.
 pub struct Reel {
-    knots: [Knot; KNOTS_MAX],
-    count: usize,
+    pub(crate) knots: [Knot; KNOTS_MAX],
+    pub(crate) count: usize,
 }
 
 impl Reel {
@@ -113,14 +113,7 @@ impl Reel {
         let previous = self.knots[left];
         let right = inside(at + 1);
         let following = self.knots[right];
-        let found = correct_cause(
-            k as usize,
-            self.count,
-            previous,
-            old,
-            following,
-            coefficients,
-        );
+        let found = correct_cause(k, self.count, previous, old, following, coefficients);
         let verdict = found.verdict;
         if let Verdict::Refused(cause) = verdict {
             return self.refused(cause);

@@ -27,6 +27,7 @@ use fields::LINE_MAX;
 use fields::UNSIGNED_MAX;
 use fields::number_at;
 use fields::symbol_at;
+use knot::Reason;
 use reel::Reel;
 
 // The call that a word names; the fields after it start at a place. The first is read as a number, for the calls that
@@ -36,17 +37,27 @@ fn called(reel: Reel, word: u64, line: &[u8], at: usize) -> Reel
     ensures { λ r. ⌜ Held r ⌝ }
 {
     let x = number_at(line, at, UNSIGNED_MAX, 0);
+    // of the calls that cannot answer 6
+    let none = Reason::Nothing;
     match word {
-        CLEAR => told(reel, reel.clear(), line, at, at),
-        VALUE => told(reel, reel.value(x.magnitude), line, at, x.next),
-        TREND => told(reel, reel.trend(x.magnitude), line, at, x.next),
+        CLEAR => told(reel, reel.clear(), none, line, at, at),
+        VALUE => told(reel, reel.value(x.magnitude), none, line, at, x.next),
+        TREND => told(reel, reel.trend(x.magnitude), none, line, at, x.next),
         TOTAL => {
             let y = number_at(line, x.next, UNSIGNED_MAX, 0);
-            told(reel, reel.total(x.magnitude, y.magnitude), line, at, y.next)
+            told(
+                reel,
+                reel.total(x.magnitude, y.magnitude),
+                none,
+                line,
+                at,
+                y.next,
+            )
         }
         READ => {
             let block = loaded(reel, line, at);
-            told(reel, block.handed, line, at, block.next)
+            let reason = block.reason;
+            told(reel, block.handed, reason, line, at, block.next)
         }
         APPEND | CORRECT => listed(reel, word, x, line, at),
         WRITE => write(reel, line, at),

@@ -10,6 +10,7 @@ use fields::bytes;
 use fields::number_at;
 use fields::room;
 use fields::signed_at;
+use knot::Reason;
 use magnitude::magnitude;
 use reel::Answer;
 use reel::Handed;
@@ -42,6 +43,7 @@ pub fn listed(reel: Reel, word: u64, first: Number, line: &[u8], at: usize) -> R
         return told(
             reel,
             reel.append(first.magnitude, coefficients),
+            reel.append_reason(first.magnitude, coefficients),
             line,
             at,
             from,
@@ -50,6 +52,7 @@ pub fn listed(reel: Reel, word: u64, first: Number, line: &[u8], at: usize) -> R
     told(
         reel,
         reel.correct(first.magnitude, coefficients),
+        reel.correct_reason(first.magnitude, coefficients),
         line,
         at,
         from,
@@ -58,6 +61,7 @@ pub fn listed(reel: Reel, word: u64, first: Number, line: &[u8], at: usize) -> R
 
 pub struct Block {
     pub handed: Handed,
+    pub reason: Reason,
     pub next: usize,
 }
 
@@ -71,6 +75,7 @@ pub fn loaded(reel: Reel, line: &[u8], at: usize) -> Block
     let count = taken.count;
     Block {
         handed: reel.read(&block[0..count]),
+        reason: reel.read_reason(&block[0..count]),
         next: taken.next,
     }
 }
@@ -157,6 +162,20 @@ fn say_block(reel: Reel)
     }
 }
 
+// The block of the sum of two reels, or why it is refused.
+fn say_sum(alpha: i32, one: Reel, beta: i32, other: Reel)
+    requires { ⌜ (Held one) × (Held other) ⌝ }
+{
+    let sum = one.combine(alpha, beta, other);
+    let answer = sum.answer;
+    if let Answer::Refused(cause) = answer {
+        refused(cause.number(), one.combine_reason(alpha, beta, other));
+        return;
+    }
+    io::write_all(1, b"combined ");
+    say_block(sum.reel);
+}
+
 // `combine A B HEX HEX`.
 pub fn combine(reel: Reel, line: &[u8], at: usize) -> Reel
     requires { ⌜ Held reel ⌝ }
@@ -168,15 +187,7 @@ pub fn combine(reel: Reel, line: &[u8], at: usize) -> Reel
     if !pair.readable {
         return unreadable(reel);
     }
-    let one = pair.one;
-    let sum = one.combine(alpha.value, beta.value, pair.other);
-    let answer = sum.answer;
-    if let Answer::Refused(cause) = answer {
-        refused(cause.number());
-        return reel;
-    }
-    io::write_all(1, b"combined ");
-    say_block(sum.reel);
+    say_sum(alpha.value, pair.one, beta.value, pair.other);
     reel
 }
 
@@ -196,7 +207,7 @@ pub fn write(reel: Reel, line: &[u8], at: usize) -> Reel
     let mut output = room(0xa5);
     let lent = &mut output[0..count];
     // the word of this answer is not the line's own: a line of that word alone is given, read to its end
-    let after = told(reel, reel.write(lent), b"wrote ", 6, 7);
+    let after = told(reel, reel.write(lent), Reason::Nothing, b"wrote ", 6, 7);
     let mut digits = room(b' ');
     let end = put_hex(&mut digits, 1, lent);
     io::write_all(1, &digits[0..end]);

@@ -7,6 +7,7 @@ use fields::number_at;
 use fields::room;
 use readings::Shown;
 use readings::look;
+use reel::Reel;
 
 // A reading with what stands before it, or that it is past the last.
 fn say(shown: Shown, before: &[u8]) {
@@ -32,6 +33,12 @@ fn say_all(block: &[u8], k: u32, n: u32, count: u32) {
     }
 }
 
+// Why a view is refused; where it is the reader's 6, with the reason that a read of the block has.
+fn say_refused(refusal: u32, block: &[u8]) {
+    let reel = Reel::empty();
+    refused(refusal, reel.read_reason(block));
+}
+
 // `view HEX K N`: how many are shown, and each of them.
 pub fn view(line: &[u8], at: usize) {
     let mut block = room(0);
@@ -46,7 +53,7 @@ pub fn view(line: &[u8], at: usize) {
     let seen = look(&block[0..length], k.magnitude, n.magnitude, 0);
     let count = seen.count;
     if seen.refusal != 0 {
-        refused(seen.refusal);
+        say_refused(seen.refusal, &block[0..length]);
         return;
     }
     io::write_all(1, b"view ");
@@ -69,7 +76,7 @@ pub fn view_at(line: &[u8], at: usize) {
     let seen = look(&block[0..length], k.magnitude, n.magnitude, i.magnitude);
     let shown = seen.shown;
     if seen.refusal != 0 {
-        refused(seen.refusal);
+        say_refused(seen.refusal, &block[0..length]);
         return;
     }
     say(shown, b"reading ");

@@ -1,6 +1,4 @@
 -- How large the numbers of a piece can get: laws about the definitions, from which everything fits in 64 bits.
-use borrow.Author.Tests.{le-leb, leb-true}
-use mathlib.Core.Bool.{true}
 use mathlib.Core.Path.{_≡_, refl}
 use mathlib.Core.List.{List}
 use Prim.Native.Nat.{ℕ, zero, suc, _+_, _*_, _-_, _^_, _≤_, _<_}
@@ -13,7 +11,6 @@ use lib.IntN.{ℤ, pos, negsuc, _-ℤ_, _*ℤ_, natAbs, zero-*ℤ}
 use lib.ListN.{length, getD, List·getD-eq-default}
 use Rattle.integer.specs.Sum.{sum}
 use Rattle.integer.specs.Within.{Within}
-use Rattle.integer.proofs.Tests.{each-at, each-all}
 use Rattle.integer.proofs.Claim.{_≗_, upto, sound}
 use Rattle.integer.proofs.Difference.{as-⊖, differences}
 use Rattle.integer.proofs.Within.{shares, within-sum, within-more, within-add, within-mul, within-neg, within-natural, within-size}
@@ -26,7 +23,7 @@ use Rattle.rounding.specs.Scaling.{rounded, scaled, scaledTimes}
 use Rattle.rounding.specs.HalfSum.{descended, halfSum, lowerHalfSum}
 use Rattle.rounding.specs.Piece.{weight}
 use Rattle.rounding.specs.Limits.{gradeMax, gapMax, sizeMax}
-use Rattle.rounding.specs.Size.{small, sized}
+use Rattle.rounding.specs.Size.{Sized}
 use Rattle.rounding.specs.Trend.{scaledK}
 use Rattle.rounding.proofs.Scaling.{nearest}
 
@@ -75,29 +72,24 @@ power-small h j a b = le-trans (pow-le-pow-left a j) (pow-le-pow-right {n = gapM
 product-within : (C : ℤ) (power : ℕ) → natAbs C * power ≤ sizeMax → Within sizeMax (C *ℤ pos power)
 product-within C power h = within-more h (within-mul C (pos power) (within-size C) (within-natural power))
 
-pub sized-within : (h : ℕ) (C : List ℤ) (j : ℕ) → sized h C ≡ true → Within sizeMax (weight h C j)
-unfolding sized
-sized-within h C j e = go (decLt j (length C))
+pub sized-within : (h : ℕ) (C : List ℤ) (j : ℕ) → Sized h C → Within sizeMax (weight h C j)
+sized-within h C j kept = go (decLt j (length C))
   where
     go : Dec (j < length C) → Within sizeMax (weight h C j)
-    go (yes b) = product-within (getD C j (pos 0)) (h ^ j) (leb-true _ _ (each-at (length C) (small h C) e j b))
+    go (yes b) = product-within (getD C j (pos 0)) (h ^ j) (kept j b)
     go (no b) = rw (List·getD-eq-default C (pos 0) {n = j} (omega arith), zero-*ℤ (pos (h ^ j))) (within-more (lit≤ tt) (within-natural 0))
 
-pub right-sized : (h : ℕ) (C : List ℤ) (j : ℕ) → sized h C ≡ true → Within sizeMax (rightWeights (weight h C) j)
+pub right-sized : (h : ℕ) (C : List ℤ) (j : ℕ) → Sized h C → Within sizeMax (rightWeights (weight h C) j)
 unfolding rightWeights
-right-sized h C j e = within-mul (sign j) (weight h C j) (sign-within j) (sized-within h C j e)
+right-sized h C j kept = within-mul (sign j) (weight h C j) (sign-within j) (sized-within h C j kept)
 
 -- the size rule at a gap of one step or more gives it at one, and so a bound on the coefficients themselves
-pub sized-one : (h : ℕ) (C : List ℤ) → 1 ≤ h → sized h C ≡ true → sized 1 C ≡ true
-unfolding sized
-sized-one h C b e = each-all (length C) (small 1 C) (λ j l. le-leb _ _
-    (le-trans (mul-le-mul-left (natAbs (getD C j (pos 0))) (pow-le-pow-left b j)) (leb-true _ _ (each-at (length C) (small h C) e j l))))
+pub sized-one : (h : ℕ) (C : List ℤ) → 1 ≤ h → Sized h C → Sized 1 C
+sized-one h C b kept j l = le-trans (mul-le-mul-left (natAbs (getD C j (pos 0))) (pow-le-pow-left b j)) (kept j l)
 
-pub one-within : (C : List ℤ) → sized 1 C ≡ true → (j : ℕ) → j < length C → Within sizeMax (getD C j (pos 0))
-unfolding sized
-one-within C e j l =
-    within-more (le-trans (le-mul-of-pos-right _ (one-le-pow j 1 (omega arith))) (leb-true _ _ (each-at (length C) (small 1 C) e j l)))
-    (within-size (getD C j (pos 0)))
+pub one-within : (C : List ℤ) → Sized 1 C → (j : ℕ) → j < length C → Within sizeMax (getD C j (pos 0))
+one-within C kept j l =
+    within-more (le-trans (le-mul-of-pos-right _ (one-le-pow j 1 (omega arith))) (kept j l)) (within-size (getD C j (pos 0)))
 
 -- ---- the half-sum
 

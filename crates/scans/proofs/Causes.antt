@@ -1,7 +1,7 @@
 -- The first cause that holds, of two lists one after the other; and what holds where none does.
 use borrow.Author.Tests.{ltb-false, leb-false, eqb-false}
-use mathlib.Core.Bool.{Bool, true, false, cond, _||_, true≢false}
-use mathlib.Core.List.{List, [], _∷_, _++_}
+use mathlib.Core.Bool.{Bool, true, false, _||_, true≢false}
+use mathlib.Core.List.{List, _++_}
 use mathlib.Core.Option.{Option, none, some, Option·some-ne-none, Option·some-injective}
 use mathlib.Core.Path.{_≡_, refl, sym}
 use Prim.Native.Nat.{ℕ, _+_, _≤_, _<_}
@@ -9,6 +9,7 @@ use native.Mathlib.Omega.{arith}
 use lib.Dec.{eqb, leb, ltb}
 use lib.IntN.{ℤ}
 use lib.ListN.{length}
+use Rattle.integer.proofs.Tests.{NonePasses, none-both, none-left, none-right, none-passes, no-first, firstOf-found, firstOf-later}
 use Rattle.rounding.specs.Limits.{positionMax, gradeMax, gapMax}
 use Rattle.rounding.specs.Size.{Listed}
 use Rattle.scans.specs.Scan.{Scan, gap}
@@ -16,46 +17,30 @@ use Rattle.scans.specs.RefusalTable.{Cause, first, badList, badPosition,
 
 -- ---- the first cause
 
-cond-found : (b : Bool) (k : ℕ) {n : ℕ} (now later : Option ℕ) → (now ≡ some n → later ≡ some n) → cond b (some k) now ≡ some n → cond b (some k) later ≡ some n
-cond-found true k now later f e = e
-cond-found false k now later f e = f e
-
 pub first-found : {n : ℕ} (a b : List Cause) → first a ≡ some n → first (a ++ b) ≡ some n
-first-found [] b e = absurd (Option·some-ne-none _ (sym e))
-first-found (c ∷ a) b e = cond-found (c .holds) (c .number) (first a) (first (a ++ b)) (first-found a b) e
-
-none-first : (b : Bool) (n : ℕ) (rest : Option ℕ) → cond b (some n) rest ≡ none → (b ≡ false) × (rest ≡ none)
-none-first true n rest e = absurd (Option·some-ne-none _ e)
-none-first false n rest e = (refl, e)
+first-found = firstOf-found (λ c. c .holds) (λ c. c .number)
 
 pub first-later : (a b : List Cause) → first a ≡ none → first (a ++ b) ≡ first b
-first-later [] b e = refl
-first-later (c ∷ a) b e = let p = none-first (c .holds) (c .number) (first a) e in rw (p .0) (first-later a b (p .1))
+first-later = firstOf-later (λ c. c .holds) (λ c. c .number)
 
 -- no cause holds
 abbrev pub Quiet : List Cause → Type 0
-Quiet [] = Unit
-Quiet (c ∷ cs) = (c .holds ≡ false) × Quiet cs
+Quiet = NonePasses (λ c. c .holds)
 
 pub quiet : (cs : List Cause) → first cs ≡ none → Quiet cs
-quiet [] e = tt
-quiet (c ∷ cs) e = let p = none-first (c .holds) (c .number) (first cs) e in (p .0, quiet cs (p .1))
+quiet = none-passes (λ c. c .holds) (λ c. c .number)
 
 pub silent : (cs : List Cause) → Quiet cs → first cs ≡ none
-silent [] q = refl
-silent (c ∷ cs) q = rw (q .0) (silent cs (q .1))
+silent = no-first (λ c. c .holds) (λ c. c .number)
 
 pub quiet-both : (a b : List Cause) → Quiet a → Quiet b → Quiet (a ++ b)
-quiet-both [] b p q = q
-quiet-both (c ∷ a) b p q = (p .0, quiet-both a b (p .1) q)
+quiet-both = none-both (λ c. c .holds)
 
 pub quiet-left : (a b : List Cause) → Quiet (a ++ b) → Quiet a
-quiet-left [] b q = tt
-quiet-left (c ∷ a) b q = (q .0, quiet-left a b (q .1))
+quiet-left = none-left (λ c. c .holds)
 
 pub quiet-right : (a b : List Cause) → Quiet (a ++ b) → Quiet b
-quiet-right [] b q = q
-quiet-right (c ∷ a) b q = quiet-right a b (q .1)
+quiet-right = none-right (λ c. c .holds)
 
 -- ---- 4 stands before 5
 

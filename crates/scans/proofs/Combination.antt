@@ -3,13 +3,13 @@
 use borrow.Author.Tests.{eqb-true}
 use mathlib.Core.Bool.{true}
 use mathlib.Core.List.{List, [], _∷_}
-use mathlib.Core.Option.{none, some, Option·some-ne-none, Option·some-injective}
+use mathlib.Core.Option.{Option, none, some, Option·some-ne-none, Option·some-injective}
 use mathlib.Core.Path.{_≡_, refl, sym, _∙_, ap, subst}
 use Prim.Native.Nat.{ℕ, zero, suc, _+_, _*_, _-_, _≤_, _<_}
 use native.Mathlib.Omega.{arith}
 use lib.Dec.{eqb}
 use lib.IntN.{ℤ, _+ℤ_, _*ℤ_}
-use lib.ListN.{length}
+use lib.ListN.{length, getElem?}
 use Rattle.integer.proofs.Tests.{both-first, both-second, each-at}
 use Rattle.hermite.specs.Polynomial.{_⊕_, _⊙_}
 use Rattle.rounding.specs.Piece.{m, n, positionUnit}
@@ -19,7 +19,7 @@ use Rattle.rounding.specs.Water.{total}
 use Rattle.rounding.specs.Combination.{CombinedDistance}
 use Rattle.rounding.proofs.Combination.{combined-length, combinedPiece, coefficients-combine, total-combines, value-combines}
 use Rattle.scans.specs.Scan.{Scan, grade, gap, at, before}
-use Rattle.scans.specs.SizeRule.{follows, eachFollows}
+use Rattle.scans.specs.SizeRule.{appendProducts, turnProducts, firstTooLarge}
 use Rattle.scans.specs.Standing.{Standing}
 use Rattle.scans.specs.Pieces.{pieceOf, mark, InReel, firstPast, pieceAt, valuePlace}
 use Rattle.scans.specs.Queries.{valuePiece, valueAt, totalOver}
@@ -28,11 +28,42 @@ use Rattle.scans.specs.Order.{combinationCauses}
 use Rattle.scans.specs.Combination.{aligned, allAligned, combinedScan, combination}
 use Rattle.scans.specs.Combined.{Combined, CombinationLaws}
 use Rattle.scans.proofs.Lists.{there}
+use Rattle.scans.proofs.SizeRule.{large-left, large-right}
 use Rattle.scans.proofs.Causes.{Placed}
 use Rattle.scans.proofs.Order.{sum-free}
 use Rattle.scans.proofs.Standing.{size-follows}
 use Rattle.scans.proofs.Pieces.{piece-admitted, value-lies}
 use Rattle.scans.proofs.Sums.{sumFrom-combines}
+
+-- ---- each knot in turn
+
+-- the scan before place j, where `last` stands before the first
+abbrev previous : Option Scan → List Scan → ℕ → Option Scan
+previous last scans zero = last
+previous last scans (suc j) = getElem? scans j
+
+turn-from : (k : ℕ) (last : Option Scan) (scans : List Scan) → firstTooLarge (turnProducts k last scans) ≡ none → (j : ℕ) → j < length scans →
+    firstTooLarge (appendProducts (k + j) (previous last scans j) (at scans j)) ≡ none
+turn-from k last [] e j h = absurd (omega arith)
+turn-from k last (s ∷ scans) e zero h =
+    let here : k + 0 ≡ k = omega arith in
+    ap (λ i. firstTooLarge (appendProducts i last s)) here ∙ large-left (appendProducts k last s) (turnProducts (suc k) (some s) scans) e
+turn-from k last (s ∷ scans) e (suc j) h =
+    let there : k + suc j ≡ suc k + j = omega arith in
+    ap (λ i. firstTooLarge (appendProducts i (getElem? (s ∷ scans) j) (at scans j))) there ∙ earlier j
+    (turn-from (suc k) (some s) scans (large-right (appendProducts k last s) (turnProducts (suc k) (some s) scans) e) j (omega arith))
+  where
+    earlier : (i : ℕ) → firstTooLarge (appendProducts (suc k + i) (previous (some s) scans i) (at scans i)) ≡ none →
+        firstTooLarge (appendProducts (suc k + i) (getElem? (s ∷ scans) i) (at scans i)) ≡ none
+    earlier zero q = q
+    earlier (suc i) q = q
+
+-- where each knot in turn names none, each follows the one before it
+turn-each : (scans : List Scan) → firstTooLarge (turnProducts 0 none scans) ≡ none → (k : ℕ) → k < length scans →
+    firstTooLarge (appendProducts k (before scans k) (at scans k)) ≡ none
+turn-each scans e zero h = turn-from 0 none scans e zero h
+turn-each scans e (suc k) h = let there : 0 + suc k ≡ suc k = omega arith in
+    sym (ap (λ i. firstTooLarge (appendProducts i (getElem? scans k) (at scans (suc k)))) there) ∙ turn-from 0 none scans e (suc k) h
 
 -- ---- place by place
 
@@ -165,8 +196,8 @@ module _ (A B : List Scan) (alike : allAligned A B ≡ true) where
           near = λ held e. rw (← last held e) (omega (arith, gap-is k h, st .gapAtMost k h));
         }
 
-    combination-standing : Standing A → Standing B → eachFollows C ≡ true → Standing C
-    combination-standing st st' each = record {
+    combination-standing : Standing A → Standing B → firstTooLarge (turnProducts 0 none C) ≡ none → Standing C
+    combination-standing st st' sizes = record {
       count = rw count-is (st .count);
       position = λ k h. rw (position-is k (omega (arith, count-is))) (st .position k (omega (arith, count-is)));
       leftGrade = λ k h. let b : k < length A = omega (arith, count-is) in
@@ -175,7 +206,7 @@ module _ (A B : List Scan) (alike : allAligned A B ≡ true) where
           rw (scan-is k b) (listed (st .rightGrade k b) (st' .rightGrade k (omega (arith, counts))));
       gapAtLeast = λ k h. rw (gap-is k (omega (arith, count-is))) (st .gapAtLeast k (omega (arith, count-is)));
       gapAtMost = λ k h. rw (gap-is k (omega (arith, count-is))) (st .gapAtMost k (omega (arith, count-is)));
-      size = size-follows C (each-at (length C) (λ k. follows (before C k) (at C k)) each);
+      size = size-follows C (turn-each C sizes);
     }
 
 pub combination-laws : CombinationLaws

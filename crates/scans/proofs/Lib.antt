@@ -1,8 +1,10 @@
 pub mod Lists
-pub mod Causes
-pub mod Order
 pub mod SizeRule
+pub mod Causes
+pub mod Reason
+pub mod Order
 pub mod Standing
+pub mod Tied
 pub mod Pieces
 pub mod Sums
 pub mod Distances

@@ -1,6 +1,6 @@
 -- The first cause of a call, as far as its causes were looked at one after the other; and what holds where none does.
 use borrow.Author.Tests.{not-false, ltb-false, leb-false, lt-ltb, le-ltb, le-leb, lt-leb}
-use mathlib.Core.Bool.{true, false, cond, not}
+use mathlib.Core.Bool.{true, false}
 use mathlib.Core.List.{List, [], _∷_, _++_}
 use mathlib.Core.Option.{Option, none, some}
 use mathlib.Core.Path.{_≡_, refl, _∙_}
@@ -11,11 +11,12 @@ use lib.IntN.{ℤ}
 use lib.ListN.{length, drop}
 use Rattle.rounding.specs.Limits.{knotsMax}
 use Rattle.scans.specs.Scan.{Scan, scanOf}
-use Rattle.scans.specs.SizeRule.{sizeRule, eachFollows}
+use Rattle.scans.specs.SizeRule.{sizeProducts, turnProducts, firstTooLarge}
 use Rattle.scans.specs.RefusalTable.{Cause, first, listCauses, positionCauses, sizeCauses, badSize, badMultiplier}
 use Rattle.scans.specs.Combination.{allAligned, combination}
 use Rattle.scans.specs.Order.{appendCauses, correctCauses, queryCauses, rangeCauses, combinationCauses}
 use Rattle.scans.specs.Pieces.{mark, InReel}
+use Rattle.scans.proofs.SizeRule.{not-found}
 use Rattle.scans.proofs.Causes.{first-found, first-later, quiet, neither}
 
 module _ (count : ℕ) (last : Option Scan) (x : ℕ) (C : List ℤ) where
@@ -23,38 +24,40 @@ module _ (count : ℕ) (last : Option Scan) (x : ℕ) (C : List ℤ) where
   full h = rw (lt-ltb knotsMax (count + 1) (omega arith)) refl
 
   -- no 2: the list, and what is asked after it
-  not-full : count < knotsMax → first (appendCauses count last x C) ≡ first (listCauses (length C) ++ (positionCauses last x ++ sizeCauses last (scanOf x C)))
+  not-full : count < knotsMax →
+      first (appendCauses count last x C) ≡ first (listCauses (length C) ++ (positionCauses last x ++ sizeCauses count last (scanOf x C)))
   not-full h = rw (le-ltb knotsMax (count + 1) (omega arith)) refl
 
   pub append-list : {n : ℕ} → count < knotsMax → first (listCauses (length C)) ≡ some n → first (appendCauses count last x C) ≡ some n
-  append-list h e = not-full h ∙ first-found (listCauses (length C)) (positionCauses last x ++ sizeCauses last (scanOf x C)) e
+  append-list h e = not-full h ∙ first-found (listCauses (length C)) (positionCauses last x ++ sizeCauses count last (scanOf x C)) e
 
   append-rest : count < knotsMax → first (listCauses (length C)) ≡ none →
-      first (appendCauses count last x C) ≡ first (positionCauses last x ++ sizeCauses last (scanOf x C))
-  append-rest h e = not-full h ∙ first-later (listCauses (length C)) (positionCauses last x ++ sizeCauses last (scanOf x C)) e
+      first (appendCauses count last x C) ≡ first (positionCauses last x ++ sizeCauses count last (scanOf x C))
+  append-rest h e = not-full h ∙ first-later (listCauses (length C)) (positionCauses last x ++ sizeCauses count last (scanOf x C)) e
 
   pub append-position : {n : ℕ} → count < knotsMax → first (listCauses (length C)) ≡ none →
       first (positionCauses last x) ≡ some n → first (appendCauses count last x C) ≡ some n
-  append-position h e p = append-rest h e ∙ first-found (positionCauses last x) (sizeCauses last (scanOf x C)) p
+  append-position h e p = append-rest h e ∙ first-found (positionCauses last x) (sizeCauses count last (scanOf x C)) p
 
   pub append-size : count < knotsMax → first (listCauses (length C)) ≡ none →
-      first (positionCauses last x) ≡ none → first (appendCauses count last x C) ≡ first (sizeCauses last (scanOf x C))
-  append-size h e p = append-rest h e ∙ first-later (positionCauses last x) (sizeCauses last (scanOf x C)) p
+      first (positionCauses last x) ≡ none → first (appendCauses count last x C) ≡ first (sizeCauses count last (scanOf x C))
+  append-size h e p = append-rest h e ∙ first-later (positionCauses last x) (sizeCauses count last (scanOf x C)) p
 
 module _ (k count : ℕ) (left : Option Scan) (x : ℕ) (right : Option Scan) (C : List ℤ) where
   pub no-knot : count ≤ k → first (correctCauses k count left x right C) ≡ some 9
   no-knot h = rw (le-leb count k h) refl
 
   -- no 9: the list, and what is asked after it
-  a-knot : k < count → first (correctCauses k count left x right C) ≡ first (listCauses (length C) ++ badSize (sizeRule left (scanOf x C) right) ∷ [])
+  a-knot : k < count →
+      first (correctCauses k count left x right C) ≡ first (listCauses (length C) ++ badSize (firstTooLarge (sizeProducts k left (scanOf x C) right)) ∷ [])
   a-knot h = rw (lt-leb count k h) refl
 
   pub correct-list : {n : ℕ} → k < count → first (listCauses (length C)) ≡ some n → first (correctCauses k count left x right C) ≡ some n
-  correct-list h e = a-knot h ∙ first-found (listCauses (length C)) (badSize (sizeRule left (scanOf x C) right) ∷ []) e
+  correct-list h e = a-knot h ∙ first-found (listCauses (length C)) (badSize (firstTooLarge (sizeProducts k left (scanOf x C) right)) ∷ []) e
 
   pub correct-size : k < count → first (listCauses (length C)) ≡ none →
-      first (correctCauses k count left x right C) ≡ cond (not (sizeRule left (scanOf x C) right)) (some 6) none
-  correct-size h e = a-knot h ∙ first-later (listCauses (length C)) (badSize (sizeRule left (scanOf x C) right) ∷ []) e
+      first (correctCauses k count left x right C) ≡ first (badSize (firstTooLarge (sizeProducts k left (scanOf x C) right)) ∷ [])
+  correct-size h e = a-knot h ∙ first-later (listCauses (length C)) (badSize (firstTooLarge (sizeProducts k left (scanOf x C) right)) ∷ []) e
 
 -- 8 below two knots, whatever the position, and whatever the range
 pub few-query : (count from to x : ℕ) → count < 2 → first (queryCauses count from to x) ≡ some 8
@@ -97,7 +100,7 @@ module _ (α β : ℤ) (A B : List Scan) where
   others = drop 2 (combinationCauses α β A B)
 
   abbrev sizes : List Cause
-  sizes = badSize (eachFollows (combination α β A B)) ∷ []
+  sizes = badSize (firstTooLarge (turnProducts 0 none (combination α β A B))) ∷ []
 
   pub sum-multiplier : {n : ℕ} → first multipliers ≡ some n → first (combinationCauses α β A B) ≡ some n
   sum-multiplier e = first-found multipliers others e
@@ -109,7 +112,7 @@ module _ (α β : ℤ) (A B : List Scan) where
   sum-size e alike = first-later multipliers others e ∙ rw alike refl
 
   -- what holds where none of them does
-  pub sum-free : first (combinationCauses α β A B) ≡ none → (allAligned A B ≡ true) × (eachFollows (combination α β A B) ≡ true)
+  pub sum-free : first (combinationCauses α β A B) ≡ none → (allAligned A B ≡ true) × (firstTooLarge (turnProducts 0 none (combination α β A B)) ≡ none)
   sum-free e =
       let q = quiet (combinationCauses α β A B) e in
-      (not-false (allAligned A B) (q .1 .1 .0), not-false (eachFollows (combination α β A B)) (q .1 .1 .1 .0))
+      (not-false (allAligned A B) (q .1 .1 .0), not-found (firstTooLarge (turnProducts 0 none (combination α β A B))) (q .1 .1 .1 .0))

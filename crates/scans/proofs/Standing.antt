@@ -1,6 +1,5 @@
 -- The empty list stands, and so does one that stands with a scan more that may follow (`Standing` of specs/Standing.antt); and the size
 -- rule at both ends of each gap of a list that stands.
-use mathlib.Core.Bool.{true}
 use mathlib.Core.List.{List, [], _∷_, _++_}
 use mathlib.Core.Option.{Option, none, some}
 use mathlib.Core.Path.{_≡_, refl}
@@ -9,13 +8,13 @@ use native.Mathlib.Decide.{decLt}
 use native.Mathlib.Omega.{arith}
 use lib.ListN.{length, length-append, List·getD-append}
 use lib.Seq.{getD-append-seam}
-use Rattle.integer.proofs.Tests.{both, both-second, both-first}
 use Rattle.rounding.specs.Limits.{knotsMax, positionMax, gapMax}
-use Rattle.rounding.specs.Size.{sized, Listed}
+use Rattle.rounding.specs.Size.{Sized, Listed}
 use Rattle.scans.specs.Scan.{Scan, scanOf, gap, at, before, after, leftList, rightList}
-use Rattle.scans.specs.SizeRule.{sizeRule, follows}
+use Rattle.scans.specs.SizeRule.{Spot, sizeProducts, appendProducts, firstTooLarge}
 use Rattle.scans.specs.Standing.{Standing}
 use Rattle.scans.proofs.Causes.{Placed}
+use Rattle.scans.proofs.SizeRule.{joined, follows-held, follows-new, size-right, size-left}
 use Rattle.scans.proofs.Lists.{there, past, last-at, got-old}
 
 pub standing-none : Standing []
@@ -29,46 +28,28 @@ standing-none = record {
   size = λ k h. absurd (omega arith);
 }
 
--- a scan that gets a neighbour on its right; and what `follows` says of the last scan and of the new one
-joined : (l : Option Scan) (held s : Scan) →
-    sizeRule l held none ≡ true → sized (gap held (s .position)) (rightList held) ≡ true → sizeRule l held (some s) ≡ true
-joined none held s p q = q
-joined (some l) held s p q = both p q
-
-follows-held : (held s : Scan) → follows (some held) s ≡ true → sized (gap held (s .position)) (rightList held) ≡ true
-follows-held held s e = both-first (sized (gap held (s .position)) (rightList held)) (sizeRule (some held) s none) e
-
-follows-new : (last : Option Scan) (s : Scan) → follows last s ≡ true → sizeRule last s none ≡ true
-follows-new none s e = e
-follows-new (some held) s e = both-second (sized (gap held (s .position)) (rightList held)) (sizeRule (some held) s none) e
-
 -- the size rule of each scan, where each follows those before it
-pub size-follows : (scans : List Scan) → ((k : ℕ) → k < length scans → follows (before scans k) (at scans k) ≡ true) → (k : ℕ) → k < length scans →
-    sizeRule (before scans k) (at scans k) (after scans k) ≡ true
-size-follows scans each k h = go (decLt (suc k) (length scans)) (follows-new (before scans k) (at scans k) (each k h))
+pub size-follows : (scans : List Scan) →
+    ((k : ℕ) → k < length scans → firstTooLarge (appendProducts k (before scans k) (at scans k)) ≡ none) → (k : ℕ) → k < length scans →
+    firstTooLarge (sizeProducts k (before scans k) (at scans k) (after scans k)) ≡ none
+size-follows scans each k h = go (decLt (suc k) (length scans)) (follows-new k (before scans k) (at scans k) (each k h))
   where
-    go : Dec (suc k < length scans) → sizeRule (before scans k) (at scans k) none ≡ true → sizeRule (before scans k) (at scans k) (after scans k) ≡ true
+    go : Dec (suc k < length scans) → firstTooLarge (sizeProducts k (before scans k) (at scans k) none) ≡ none →
+        firstTooLarge (sizeProducts k (before scans k) (at scans k) (after scans k)) ≡ none
     go (yes d) new =
         rw (there scans (suc k) d)
-        (joined (before scans k) (at scans k) (at scans (suc k)) new (follows-held (at scans k) (at scans (suc k)) (rw (there scans k h) at (each (suc k) d))))
+        (joined k (before scans k) (at scans k) (at scans (suc k)) new
+        (follows-held (suc k) (at scans k) (at scans (suc k)) (rw (there scans k h) at (each (suc k) d))))
     go (no d) new = rw (past scans (suc k) (omega arith)) new
 
 -- ---- the size rule with the gap on one side of a scan, of scans that stand
 
-size-right : (l : Option Scan) (s r : Scan) → sizeRule l s (some r) ≡ true → sized (gap s (r .position)) (rightList s) ≡ true
-size-right none s r e = e
-size-right (some l) s r e = both-second (sized (gap l (s .position)) (leftList s)) (sized (gap s (r .position)) (rightList s)) e
-
-size-left : (l s : Scan) (r : Option Scan) → sizeRule (some l) s r ≡ true → sized (gap l (s .position)) (leftList s) ≡ true
-size-left l s none e = e
-size-left l s (some r) e = both-first (sized (gap l (s .position)) (leftList s)) (sized (gap s (r .position)) (rightList s)) e
-
 module _ (scans : List Scan) (st : Standing scans) (k : ℕ) (h : suc k < length scans) where
-  pub sized-right : sized (gap (at scans k) (at scans (suc k) .position)) (rightList (at scans k)) ≡ true
-  sized-right = size-right (before scans k) (at scans k) (at scans (suc k)) (rw (there scans (suc k) h) at (st .size k (omega arith)))
+  pub sized-right : Sized (gap (at scans k) (at scans (suc k) .position)) (rightList (at scans k))
+  sized-right = size-right k (before scans k) (at scans k) (at scans (suc k)) (rw (there scans (suc k) h) at (st .size k (omega arith)))
 
-  pub sized-left : sized (gap (at scans k) (at scans (suc k) .position)) (leftList (at scans (suc k))) ≡ true
-  sized-left = size-left (at scans k) (at scans (suc k)) (after scans (suc k)) (rw (there scans k (omega arith)) at (st .size (suc k) h))
+  pub sized-left : Sized (gap (at scans k) (at scans (suc k) .position)) (leftList (at scans (suc k)))
+  sized-left = size-left (suc k) (at scans k) (at scans (suc k)) (after scans (suc k)) (rw (there scans k (omega arith)) at (st .size (suc k) h))
 
 -- ---- append: the old scans, then the new one
 
@@ -76,10 +57,10 @@ module _ (scans : List Scan) (s : Scan) where
   at-old : (j : ℕ) → j < length scans → at (scans ++ s ∷ []) j ≡ at scans j
   at-old j h = List·getD-append scans (s ∷ []) (scanOf 0 []) j h
 
-  at-new : (j : ℕ) → j ≡ length scans → at (scans ++ s ∷ []) j ≡ s
+  pub at-new : (j : ℕ) → j ≡ length scans → at (scans ++ s ∷ []) j ≡ s
   at-new j e = rw e (getD-append-seam scans s [] (scanOf 0 []))
 
-  before-old : (j : ℕ) → j ≤ length scans → before (scans ++ s ∷ []) j ≡ before scans j
+  pub before-old : (j : ℕ) → j ≤ length scans → before (scans ++ s ∷ []) j ≡ before scans j
   before-old zero h = refl
   before-old (suc j) h = got-old scans (s ∷ []) j (omega arith)
 
@@ -102,25 +83,28 @@ module _ (scans : List Scan) (s : Scan) where
       go (yes b) n = rw (at-old j (omega arith), at-old (suc j) b) (old j b)
       go (no b) n = rw (at-old j (omega arith), at-new (suc j) (omega arith)) (new j (omega arith))
 
-  size-appended : Standing scans → follows (before scans (length scans)) s ≡ true → (j : ℕ) → j < length (scans ++ s ∷ []) →
-      sizeRule (before (scans ++ s ∷ []) j) (at (scans ++ s ∷ []) j) (after (scans ++ s ∷ []) j) ≡ true
+  abbrev sizesAt : ℕ → Option Spot
+  sizesAt j = firstTooLarge (sizeProducts j (before (scans ++ s ∷ []) j) (at (scans ++ s ∷ []) j) (after (scans ++ s ∷ []) j))
+
+  size-appended : Standing scans → firstTooLarge (appendProducts (length scans) (before scans (length scans)) s) ≡ none →
+      (j : ℕ) → j < length (scans ++ s ∷ []) → sizesAt j ≡ none
   size-appended st f j h = go (decLt j (length scans)) (decLt (suc j) (length scans)) (length-append scans (s ∷ []))
     where
-      go : Dec (j < length scans) → Dec (suc j < length scans) → length (scans ++ s ∷ []) ≡ length scans + 1 →
-          sizeRule (before (scans ++ s ∷ []) j) (at (scans ++ s ∷ []) j) (after (scans ++ s ∷ []) j) ≡ true
+      go : Dec (j < length scans) → Dec (suc j < length scans) → length (scans ++ s ∷ []) ≡ length scans + 1 → sizesAt j ≡ none
       go c (yes d) n = rw (before-old j (omega arith), at-old j (omega arith), got-old scans (s ∷ []) (suc j) d) (st .size j (omega arith))
       go (yes c) (no d) n =
-          let old : sizeRule (before scans j) (at scans j) none ≡ true = rw (past scans (suc j) (omega arith)) at (st .size j c) in
-          let held : follows (some (at scans j)) s ≡ true = rw (last-at scans j (omega arith)) at f in
+          let old : firstTooLarge (sizeProducts j (before scans j) (at scans j) none) ≡ none = rw (past scans (suc j) (omega arith)) at (st .size j c) in
+          let held : firstTooLarge (appendProducts (length scans) (some (at scans j)) s) ≡ none = rw (last-at scans j (omega arith)) at f in
           rw (before-old j (omega arith), at-old j c, there (scans ++ s ∷ []) (suc j) (omega arith), at-new (suc j) (omega arith))
-          (joined (before scans j) (at scans j) s old (follows-held (at scans j) s held))
+          (joined j (before scans j) (at scans j) s old (follows-held (length scans) (at scans j) s held))
       go (no c) (no d) n =
           let e : j ≡ length scans = omega arith in
-          rw (before-old j (omega arith), at-new j e, past (scans ++ s ∷ []) (suc j) (omega arith), e) (follows-new (before scans (length scans)) s f)
+          rw (before-old j (omega arith), at-new j e, past (scans ++ s ∷ []) (suc j) (omega arith), e)
+          (follows-new (length scans) (before scans (length scans)) s f)
 
 pub appended-standing : (scans : List Scan) (s : Scan) → Standing scans → length scans + 1 ≤ knotsMax →
     Listed (s .coefficients) → Placed (before scans (length scans)) (s .position) →
-    follows (before scans (length scans)) s ≡ true → Standing (scans ++ s ∷ [])
+    firstTooLarge (appendProducts (length scans) (before scans (length scans)) s) ≡ none → Standing (scans ++ s ∷ [])
 appended-standing scans s st n c b f = record {
   count = rw (length-append scans (s ∷ [])) n;
   position = old-or-new scans s (λ t. t .position ≤ positionMax) (st .position) (b .position);

@@ -3,6 +3,7 @@ pub mod SizeRule
 pub mod Standing
 pub mod RefusalTable
 pub mod Combination
+pub mod Reason
 pub mod Order
 pub mod Pieces
 pub mod Queries

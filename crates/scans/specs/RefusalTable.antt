@@ -1,14 +1,15 @@
 -- Document 01, "Refusal table", with the rows of document 02: each a cause that holds or not, with its number; and the
 -- first that holds.
-use mathlib.Core.Bool.{Bool, false, not, _||_, cond}
+use mathlib.Core.Bool.{Bool, false, not, _||_}
 use mathlib.Core.List.{List, [], _∷_}
 use mathlib.Core.Option.{Option, none, some}
 use Prim.Native.Nat.{ℕ, _+_}
 use lib.Dec.{eqb, leb, ltb}
 use lib.IntN.{ℤ, natAbs}
+use Rattle.integer.specs.Tests.{firstOf}
 use Rattle.rounding.specs.Limits.{knotsMax, positionMax, gradeMax, gapMax, readingsMax, multiplierMax}
 use Rattle.scans.specs.Scan.{Scan, gap}
-use Rattle.scans.specs.SizeRule.{follows}
+use Rattle.scans.specs.SizeRule.{Spot, appendProducts, firstTooLarge, isFound}
 
 pub record Cause : Type 0 where
   pub number : ℕ
@@ -16,8 +17,7 @@ pub record Cause : Type 0 where
 
 -- the number of the first cause that holds
 abbrev pub first : List Cause → Option ℕ
-first [] = none
-first (c ∷ cs) = cond (c .holds) (some (c .number)) (first cs)
+first = firstOf (λ c. c .holds) (λ c. c .number)
 
 -- ---- the rows, in the table's order
 
@@ -49,9 +49,9 @@ wideGap last x = record { number = 5; holds = wide last }
     wide none = false
     wide (some held) = ltb gapMax (gap held x)
 
--- size rule broken
-abbrev pub badSize : Bool → Cause
-badSize kept = record { number = 6; holds = not kept }
+-- size rule broken: of the products that are tested one is found that exceeds the limit
+abbrev pub badSize : Option Spot → Cause
+badSize found = record { number = 6; holds = isFound found }
 
 -- position before the first or after the last knot, all in 1/256 step
 abbrev pub outside : ℕ → ℕ → ℕ → Cause
@@ -98,6 +98,6 @@ listCauses n = badList n ∷ []
 abbrev pub positionCauses : Option Scan → ℕ → List Cause
 positionCauses last x = badPosition last x ∷ wideGap last x ∷ []
 
--- of a knot after the last one: 6
-abbrev pub sizeCauses : Option Scan → Scan → List Cause
-sizeCauses last s = badSize (follows last s) ∷ []
+-- of knot k after the last one: 6
+abbrev pub sizeCauses : ℕ → Option Scan → Scan → List Cause
+sizeCauses k last s = badSize (firstTooLarge (appendProducts k last s)) ∷ []

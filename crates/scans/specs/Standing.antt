@@ -1,13 +1,13 @@
 -- Document 01, "The reel": what a list of scans can be. Every list that stands after calls from the empty reel is one.
-use mathlib.Core.Bool.{true}
 use mathlib.Core.List.{List}
+use mathlib.Core.Option.{none}
 use mathlib.Core.Path.{_≡_}
 use Prim.Native.Nat.{ℕ, suc, _≤_, _<_}
 use lib.ListN.{length}
 use Rattle.rounding.specs.Limits.{knotsMax, positionMax, gapMax}
 use Rattle.rounding.specs.Size.{Listed}
 use Rattle.scans.specs.Scan.{Scan, leftList, rightList, gap, at, before, after}
-use Rattle.scans.specs.SizeRule.{sizeRule}
+use Rattle.scans.specs.SizeRule.{sizeProducts, firstTooLarge}
 
 pub record Standing (scans : List Scan) : Type 0 where
   -- 0 to 129 knots
@@ -20,5 +20,6 @@ pub record Standing (scans : List Scan) : Type 0 where
   -- positions rise; a gap is 1 to 16 steps
   pub gapAtLeast : (k : ℕ) → suc k < length scans → 1 ≤ gap (at scans k) (at scans (suc k) .position)
   pub gapAtMost : (k : ℕ) → suc k < length scans → gap (at scans k) (at scans (suc k) .position) ≤ gapMax
-  -- the size rule
-  pub size : (k : ℕ) → k < length scans → sizeRule (before scans k) (at scans k) (after scans k) ≡ true
+  -- the size rule: no product exceeds the limit
+  pub size : (k : ℕ) → k < length scans →
+      firstTooLarge (sizeProducts k (before scans k) (at scans k) (after scans k)) ≡ none

@@ -1,27 +1,29 @@
 -- How far a sum has come: k knots of it stand in the places of the first list's, and each follows those before it.
-use mathlib.Core.Bool.{Bool, true, false, true≢false}
+use mathlib.Core.Bool.{true, false, true≢false}
 use mathlib.Core.List.{List, [], _∷_, _++_}
-use mathlib.Core.Option.{none, some, Option·some-ne-none}
+use mathlib.Core.Option.{Option, none, some, Option·some-ne-none}
 use mathlib.Core.Path.{_≡_, refl, sym, _∙_, ap, ap₂}
-use Prim.Native.Nat.{ℕ, _+_, _≤_, _<_}
+use Prim.Native.Nat.{ℕ, suc, _+_, _≤_, _<_}
 use native.Mathlib.Numerals.{add-one}
 use native.Mathlib.Omega.{arith}
+use lib.Dec.{eqb}
 use lib.IntN.{ℤ}
-use lib.ListN.{length, take, set, length-set}
-use lib.Seq.{take-suc, take-length, getD-set-other}
-use Rattle.integer.specs.Tests.{each}
-use Rattle.integer.proofs.Tests.{both, each-fails}
+use lib.ListN.{length, take, drop, set, length-set, drop-of-length-le}
+use lib.Seq.{take-suc, take-length, drop-cons, getD-set-other}
 use Rattle.rounding.specs.Limits.{knotsMax, gapMax}
 use Rattle.scans.specs.Scan.{Scan, scanOf, grade, gap, at, before}
-use Rattle.scans.specs.SizeRule.{follows, eachFollows}
-use Rattle.scans.specs.RefusalTable.{Cause, first, badSize, sizeCauses}
+use Rattle.scans.specs.SizeRule.{Spot, Product, appendProducts, turnProducts, firstTooLarge}
+use Rattle.scans.specs.RefusalTable.{Cause, first, badSize}
+use Rattle.scans.specs.Reason.{reason}
 use Rattle.scans.specs.Combination.{combinedScan, combination}
 use Rattle.scans.proofs.Causes.{Placed}
+use Rattle.scans.proofs.SizeRule.{large-found, large-later}
+use Rattle.scans.proofs.Reason.{other-reason, size-reason}
 use Rattle.scans.proofs.Lists.{there}
 use Rattle.scans.proofs.Combination.{grades, count-is, scan-is, placed-is}
-use Rattle.knot.specs.Machine.{scan, Graded, Holds, knotIn, scansIn, refusal}
+use Rattle.knot.specs.Machine.{scan, Graded, Holds, knotIn, scansIn, spotIn, refusal}
 use Rattle.knot.specs.declared.held.Knot.{Knot}
-use Rattle.knot.specs.declared.table.Verdict.{Verdict}
+use Rattle.knot.specs.declared.reason.Reason.the-variants as Reasons
 use Rattle.knot.proofs.Lists.{list-length, length-scans, at-scans, scans-stored, graded-stored}
 use Rattle.following.specs.Machine.{neighbour}
 use Rattle.following.specs.declared.causes.Neighbour.{Neighbour}
@@ -29,23 +31,15 @@ use Rattle.combination.specs.Machine.{limitedScan, Summable, Sums}
 use Rattle.combination.specs.declared.sum.Sum.{Sum}
 use Rattle.combination.proofs.Limited.{limited-follows, limited-scan}
 
--- a sum that is refused
-pub refuses : (r : Sum) (count : ℕ) (causes : List Cause) (scans : List Scan) {n : ℕ} → refusal (r .verdict) ≡ some n → first causes ≡ some n →
-    Sums r count causes scans
-refuses r count causes scans v found = record {
+-- a sum that is refused with another number than 6
+pub refuses : (r : Sum) (count : ℕ) (causes : List Cause) (scans : List Scan) {n : ℕ} → r .reason ≡ Reasons.Nothing → eqb n 6 ≡ false →
+    refusal (r .verdict) ≡ some n → first causes ≡ some n → Sums r count causes scans
+refuses r count causes scans {n} is other v found = record {
   verdict = v ∙ sym found;
   filled = λ q. absurd (Option·some-ne-none _ (sym found ∙ q));
   are = λ q. absurd (Option·some-ne-none _ (sym found ∙ q));
+  reason = ap spotIn is ∙ sym (ap (λ f. reason f (turnProducts 0 none scans)) found ∙ other-reason n (turnProducts 0 none scans) other);
 }
-
--- what a verdict says of the size rule
-pub size-kept : (kept : Bool) → first (badSize kept ∷ []) ≡ none → kept ≡ true
-size-kept true e = refl
-size-kept false e = absurd (Option·some-ne-none _ e)
-
-pub size-failed : {n : ℕ} (kept : Bool) → first (badSize kept ∷ []) ≡ some n → (kept ≡ false) × (some n ≡ some 6)
-size-failed true e = absurd (Option·some-ne-none _ (sym e))
-size-failed false e = (refl, sym e)
 
 module _ (α β : ℤ) (given others : List Knot) (count : ℕ) where
   abbrev A : List Scan
@@ -58,8 +52,12 @@ module _ (α β : ℤ) (given others : List Knot) (count : ℕ) where
   abbrev C : List Scan
   C = combination α β A B
 
-  abbrev pub following : ℕ → Bool
-  following k = follows (before C k) (at C k)
+  -- what is too large of it: each knot in turn
+  abbrev tested : List Product
+  tested = turnProducts 0 none C
+
+  abbrev pub at-knot : ℕ → Option Spot
+  at-knot k = firstTooLarge (appendProducts k (before C k) (at C k))
 
   pub record Come (knots : List Knot) (last : Neighbour) (k : ℕ) : Type 0 where
     pub within : k ≤ count
@@ -67,9 +65,9 @@ module _ (α β : ℤ) (given others : List Knot) (count : ℕ) where
     pub graded : (j : ℕ) → j < k → Graded (knotIn knots j)
     -- the places ahead are as they were given
     pub rest : (j : ℕ) → k ≤ j → knotIn knots j ≡ knotIn given j
-    pub lastGraded : last .there ≡ true → Graded (last .knot)
+    pub lastGraded : last .there ≡ true → (Graded (last .knot)) × (1 ≤ k)
     pub lastIs : neighbour last ≡ before C k
-    pub passed : each k following ≡ true
+    pub passed : firstTooLarge tested ≡ firstTooLarge (turnProducts k (before C k) (drop k C))
     pub scans : scansIn k knots ≡ take k C
 
   module _ (can : Summable α β given others count) where
@@ -135,15 +133,20 @@ module _ (α β : ℤ) (given others : List Knot) (count : ℕ) where
           let held : before C k ≡ some (scan (last .knot)) = sym (come .lastIs) ∙ rw t refl in
           rw (ap (λ s. s .position) next-is) (placed k h .near (scan (last .knot)) held)
 
-      -- what is found of it is what the size rule says of the sum's scan
-      pub verdict-is : (v : Verdict) → refusal v ≡ first (sizeCauses (neighbour last) (scan next)) → refusal v ≡ first (badSize (following k) ∷ [])
-      verdict-is v e =
-          e ∙ ap₂ (λ l s. first (sizeCauses l s)) (come .lastIs) next-is ∙
-          ap (λ f. first (badSize f ∷ [])) (limited-follows (before C k) (at C k) (placed k h))
+      -- what is found of it is what is found of the sum's scan
+      pub found-is : firstTooLarge (appendProducts k (neighbour last) (scan next)) ≡ at-knot k
+      found-is = ap₂ (λ l s. firstTooLarge (appendProducts k l s)) (come .lastIs) next-is ∙ limited-follows k (before C k) (at C k) (placed k h)
 
-      module _ (follows-k : following k ≡ true) where
+      -- what is left: this knot, then those after it
+      here : firstTooLarge tested ≡ firstTooLarge (appendProducts k (before C k) (at C k) ++ turnProducts (suc k) (some (at C k)) (drop (suc k) C))
+      here = come .passed ∙ ap (λ l. firstTooLarge (turnProducts k (before C k) l)) (drop-cons C k (scanOf 0 []) (omega (arith, length-C)))
+
+      module _ (follows-k : at-knot k ≡ none) where
         scan-next : scan next ≡ at C k
-        scan-next = next-is ∙ limited-scan (before C k) (at C k) (placed k h) follows-k
+        scan-next = next-is ∙ limited-scan k (before C k) (at C k) (placed k h) follows-k
+
+        last-next : some (at C k) ≡ before C (k + 1)
+        last-next = sym (there C k (omega (arith, length-C))) ∙ ap (before C) (sym (add-one k))
 
         pub one-more : Come (set knots k next) (record { there = true; knot = next }) (k + 1)
         one-more =
@@ -152,27 +155,39 @@ module _ (α β : ℤ) (given others : List Knot) (count : ℕ) where
               room = length-set knots k next ∙ come .room;
               graded = graded-stored knots k (k + 1) next there-k (holds .graded) (λ j b d. come .graded j (omega arith));
               rest = λ j b. getD-set-other knots k j next _ (λ e. absurd (omega arith)) ∙ come .rest j (omega arith);
-              lastGraded = λ t. holds .graded;
-              lastIs = ap some scan-next ∙ sym (there C k (omega (arith, length-C))) ∙ ap (before C) (sym (add-one k));
-              passed = rw add-one (both (come .passed) follows-k);
+              lastGraded = λ t. (holds .graded, omega arith);
+              lastIs = ap some scan-next ∙ last-next;
+              passed = here ∙ large-later (appendProducts k (before C k) (at C k)) (turnProducts (suc k) (some (at C k)) (drop (suc k) C)) follows-k ∙
+                  ap₂ (λ l i. firstTooLarge (turnProducts i l (drop i C))) last-next (sym (add-one k));
               scans = scans-stored knots k next there-k ∙ ap₂ (λ l s. l ++ s ∷ []) (come .scans) scan-next ∙
                   sym (ap (λ n. take n C) (add-one k) ∙ take-suc C k (scanOf 0 []) (omega (arith, length-C)));
             }
 
-    -- ---- a knot that breaks the size rule, and all knots
+      -- ---- a knot that is too large
 
-    pub fails : (r : Sum) (k : ℕ) → k < count → following k ≡ false → refusal (r .verdict) ≡ some 6 → Sums r count (badSize (eachFollows C) ∷ []) C
-    fails r k h e v =
-        let broken : eachFollows C ≡ false = each-fails (length C) following k (omega (arith, length-C)) e in
-        refuses r count (badSize (eachFollows C) ∷ []) C v (rw broken refl)
+      pub fails : (r : Sum) {spot : Spot} → spotIn (r .reason) ≡ some spot → refusal (r .verdict) ≡ some 6 → at-knot k ≡ some spot →
+          Sums r count (badSize (firstTooLarge tested) ∷ []) C
+      fails r is v found =
+          let all : firstTooLarge tested ≡ some _ =
+          here ∙ large-found (appendProducts k (before C k) (at C k)) (turnProducts (suc k) (some (at C k)) (drop (suc k) C)) found in
+          let six : first (badSize (firstTooLarge tested) ∷ []) ≡ some 6 = ap (λ f. first (badSize f ∷ [])) all in record {
+            verdict = v ∙ sym six;
+            filled = λ q. absurd (Option·some-ne-none _ (sym six ∙ q));
+            are = λ q. absurd (Option·some-ne-none _ (sym six ∙ q));
+            reason = is ∙ sym (size-reason tested ∙ all);
+          }
 
-    pub ends : (r : Sum) (last : Neighbour) (k : ℕ) → Come (r .knots) last k → count ≤ k → refusal (r .verdict) ≡ none →
-        Sums r count (badSize (eachFollows C) ∷ []) C
-    ends r last k come h v =
+    -- ---- all knots
+
+    pub ends : (r : Sum) (last : Neighbour) (k : ℕ) → Come (r .knots) last k → count ≤ k → r .reason ≡ Reasons.Nothing → refusal (r .verdict) ≡ none →
+        Sums r count (badSize (firstTooLarge tested) ∷ []) C
+    ends r last k come h is v =
         let all : k ≡ count = omega (arith, come .within) in
         let whole : k ≡ length C = omega (arith, length-C) in
-        let kept : eachFollows C ≡ true = rw whole at (come .passed) in record {
-          verdict = v ∙ sym (rw kept refl);
+        let kept : firstTooLarge tested ≡ none =
+        come .passed ∙ ap (λ l. firstTooLarge (turnProducts k (before C k) l)) (drop-of-length-le C {i = k} (omega arith)) in record {
+          verdict = v ∙ sym (ap (λ f. first (badSize f ∷ [])) kept);
           filled = λ q. record { room = come .room; count = can .filled .count; graded = λ j b. come .graded j (omega arith) };
           are = λ q. ap (λ n. scansIn n (r .knots)) (sym all) ∙ come .scans ∙ ap (λ n. take n C) whole ∙ take-length C;
+          reason = ap spotIn is ∙ sym (size-reason tested ∙ kept);
         }

@@ -1,8 +1,8 @@
 -- The causes that are found of a held reel's knots are those of its scans; and what holds where no cause of a call does.
 use borrow.Author.Tests.{le-leb, ltb-false, leb-false}
 use mathlib.Core.List.{List}
-use mathlib.Core.Option.{none}
-use mathlib.Core.Path.{_≡_, refl, sym, _∙_}
+use mathlib.Core.Option.{Option, none, some, Option·some-ne-none}
+use mathlib.Core.Path.{_≡_, refl, sym, _∙_, ap}
 use Prim.Native.Nat.{ℕ, _+_, _*_, _-_, min, _<_}
 use native.Mathlib.Decide.{decLt}
 use native.Mathlib.Omega.{arith}
@@ -11,58 +11,65 @@ use lib.IntN.{ℤ}
 use lib.ListN.{length}
 use Rattle.rounding.specs.Limits.{knotsMax}
 use Rattle.scans.specs.Scan.{scanOf}
+use Rattle.scans.specs.SizeRule.{Product}
 use Rattle.scans.specs.RefusalTable.{first}
-use Rattle.knot.specs.Machine.{Holds}
+use Rattle.scans.specs.Reason.{reason}
+use Rattle.knot.specs.Machine.{scan}
 use Rattle.scans.proofs.Causes.{quiet}
-use Rattle.scans.proofs.Order.{few-query, in-reel}
-use Rattle.scans.specs.Order.{appendCauses, correctCauses, queryCauses, rangeCauses}
-use Rattle.first_cause.specs.Machine.{Finds, beside}
+use Rattle.scans.proofs.Order.{no-knot, few-query, in-reel}
+use Rattle.scans.specs.Order.{queryCauses, rangeCauses}
+use Rattle.first_cause.specs.Machine.{Finds, FindsAppended, FindsCorrected, CloseBeside, beside}
 use Rattle.first_cause.specs.declared.changes.Found.{Found}
 use Rattle.chain.specs.Machine.{Chained, Reached}
 use Rattle.calls.specs.Calls.{append, correct, value, total, causes, corrected}
+use Rattle.calls.specs.Reason.{tested}
 use Rattle.reel.specs.Machine.{scans, knotAt, Held}
 use Rattle.reel.specs.declared.held.Reel.{Reel}
-use Rattle.reel.proofs.Scans.{length-scans, at-scans, before-is, after-is}
+use Rattle.reel.proofs.Scans.{length-scans, at-scans, before-is, after-is, gap-before, gap-after}
 
 module _ (r : Reel) (held : Held r) where
   pub append-room : (x : ℕ) (C : List ℤ) → first (causes (append x C) (scans r)) ≡ none → r .count < knotsMax
   append-room x C e = omega (arith, ltb-false knotsMax (length (scans r) + 1) (quiet (causes (append x C) (scans r)) e .0), length-scans r held)
 
-  append-causes : (i x : ℕ) (C : List ℤ) → i ≡ r .count - 1 →
-      appendCauses (r .count) (beside (ltb 0 (r .count)) (knotAt r i)) x C ≡ causes (append x C) (scans r)
-  append-causes i x C e = rw (length-scans r held, before-is r held (r .count) i e (omega arith)) refl
-
   pub append-finds : (i x : ℕ) (C : List ℤ) (t : Found) → i ≡ r .count - 1 →
-      Finds t (appendCauses (r .count) (beside (ltb 0 (r .count)) (knotAt r i)) x C) (scanOf x C) → Finds t (causes (append x C) (scans r)) (scanOf x C)
-  append-finds i x C t e f = rw (sym (append-causes i x C e)) f
+      FindsAppended t (r .count) (beside (ltb 0 (r .count)) (knotAt r i)) (scanOf x C) →
+      Finds t (causes (append x C) (scans r)) (tested (append x C) (scans r)) (scanOf x C)
+  append-finds i x C t e f = rw (length-scans r held, ← before-is r held (r .count) i e (omega arith)) f
 
   pub correct-there : (k : ℕ) (C : List ℤ) → first (causes (correct k C) (scans r)) ≡ none → k < r .count
   correct-there k C e = omega (arith, leb-false (length (scans r)) k (quiet (causes (correct k C) (scans r)) e .0), length-scans r held)
 
-  correct-causes : (k n i j : ℕ) (C : List ℤ) → n ≡ min k (knotsMax - 1) → i ≡ n - 1 → j ≡ min (n + 1) (knotsMax - 1) →
-      first (correctCauses k (r .count) (beside (ltb 0 k) (knotAt r i)) (knotAt r n .position) (beside (ltb (k + 1) (r .count)) (knotAt r j)) C) ≡
-      first (causes (correct k C) (scans r))
-  correct-causes k n i j C e p q = go (decLt k (r .count))
+  -- the knots beside knot k lie at most 16 steps from it
+  pub correct-close : (k n i j : ℕ) → n ≡ min k (knotsMax - 1) → i ≡ n - 1 → j ≡ min (n + 1) (knotsMax - 1) → k < r .count →
+      CloseBeside k (r .count) (knotAt r i) (knotAt r n .position) (knotAt r j)
+  correct-close k n i j e p q h =
+      let here : n ≡ k = omega (arith, held .filled .count) in (
+        gap-before r held k i _ (omega arith) h (ap (λ m. knotAt r m .position) here),
+        gap-after r held k j (scan (knotAt r n)) (omega arith) (ap (λ m. knotAt r m .position) here),
+      )
+
+  -- with no knot k both answer 9; else the knots beside it are those of the list, and the new one lies where it lies
+  pub correct-finds : (k n i j : ℕ) (C : List ℤ) (t : Found) → n ≡ min k (knotsMax - 1) → i ≡ n - 1 → j ≡ min (n + 1) (knotsMax - 1) →
+      FindsCorrected t k (r .count) (knotAt r i) (knotAt r n .position) (knotAt r j) C →
+      Finds t (causes (correct k C) (scans r)) (tested (correct k C) (scans r)) (corrected (scans r) k C)
+  correct-finds k n i j C t e p q f = go (decLt k (r .count))
     where
-      go : Dec (k < r .count) →
-          first (correctCauses k (r .count) (beside (ltb 0 k) (knotAt r i)) (knotAt r n .position) (beside (ltb (k + 1) (r .count)) (knotAt r j)) C) ≡
-          first (causes (correct k C) (scans r))
+      of-nine : (refusal : Option ℕ) (products : List Product) → refusal ≡ some 9 → reason refusal products ≡ none
+      of-nine refusal products nine = ap (λ o. reason o products) nine
+
+      go : Dec (k < r .count) → Finds t (causes (correct k C) (scans r)) (tested (correct k C) (scans r)) (corrected (scans r) k C)
       go (yes h) =
           let here : n ≡ k = omega (arith, held .filled .count) in
-          rw (before-is r held k i (omega arith) (omega arith), after-is r held k j (omega arith), here, length-scans r held, at-scans r held k h) refl
-      go (no h) = rw (length-scans r held, le-leb (r .count) k (omega arith)) refl
-
-  -- where no cause holds there is a knot k, and the new one lies where it lies
-  pub correct-finds : (k n i j : ℕ) (C : List ℤ) (t : Found) → n ≡ min k (knotsMax - 1) → i ≡ n - 1 → j ≡ min (n + 1) (knotsMax - 1) →
-      Finds t (correctCauses k (r .count) (beside (ltb 0 k) (knotAt r i)) (knotAt r n .position) (beside (ltb (k + 1) (r .count)) (knotAt r j)) C)
-      (scanOf (knotAt r n .position) C) →
-      Finds t (causes (correct k C) (scans r)) (corrected (scans r) k C)
-  correct-finds k n i j C t e p q f =
-      let same = correct-causes k n i j C e p q in
-      record { verdict = f .verdict ∙ same; knot = λ none-holds. moved (correct-there k C none-holds) (f .knot (same ∙ none-holds)) }
-    where
-      moved : k < r .count → Holds (t .knot) (scanOf (knotAt r n .position) C) → Holds (t .knot) (corrected (scans r) k C)
-      moved h holds = let here : n ≡ k = omega (arith, held .filled .count) in rw (at-scans r held k h, ← here) holds
+          rw (← before-is r held k i (omega arith) (omega arith), ← after-is r held k j (omega arith), length-scans r held, at-scans r held k h) (rw here at f)
+      go (no h) =
+          let nine : first (causes (correct k C) (scans r)) ≡ some 9 = rw (length-scans r held, le-leb (r .count) k (omega arith)) refl in
+          let found = no-knot k (r .count) (beside (ltb 0 k) (knotAt r i)) (knotAt r n .position) (beside (ltb (k + 1) (r .count)) (knotAt r j)) C
+          (omega arith) in
+          record {
+            verdict = f .verdict ∙ found ∙ sym nine;
+            knot = λ none-holds. absurd (Option·some-ne-none _ (sym nine ∙ none-holds));
+            reason = f .reason ∙ of-nine _ _ found ∙ sym (of-nine _ _ nine);
+          }
 
   -- a query looks at the first and the last knot
   pub query-causes : (i x : ℕ) → i ≡ r .count - 1 →

@@ -9,9 +9,13 @@ use native.Mathlib.Omega.{arith}
 use lib.ListN.{length, getD}
 use Rattle.rounding.specs.Limits.{knotsMax}
 use Rattle.scans.specs.Scan.{Scan}
-use Rattle.scans.specs.RefusalTable.{first}
+use Rattle.scans.specs.SizeRule.{turnProducts}
+use Rattle.scans.specs.RefusalTable.{Cause, first}
+use Rattle.scans.specs.Reason.{reason}
 use Rattle.knot.specs.Machine.{refusal, Numbers}
+use Rattle.knot.specs.declared.reason.Reason.the-variants as Reasons
 use Rattle.scans.proofs.Causes.{first-found, first-later, quiet}
+use Rattle.scans.proofs.Reason.{Others, no-reason}
 use Rattle.knot.proofs.Numbers.{passed, failed}
 use Rattle.block.specs.Fields.{knotCount, edition}
 use Rattle.block.specs.Bytes.{words}
@@ -28,14 +32,14 @@ use Rattle.block_reader.proofs.reader.read.Tie as tie
 
 header-found : {n : ℕ} (ws : List ℕ) → first (headerCauses (getD ws 0 0)) ≡ some n → first (wordsCauses ws) ≡ some n
 header-found [] e = e
-header-found (w ∷ ws) e = first-found (headerCauses w) (knotsCauses (edition w) (length ws) (knotCount w) none ws) e
+header-found (w ∷ ws) e = first-found (headerCauses w) (knotsCauses (edition w) (length ws) 0 (knotCount w) none ws) e
 
 header-passed : (ws : List ℕ) → first (headerCauses (getD ws 0 0)) ≡ none → let w = getD ws 0 0 in first (wordsCauses ws) ≡ fault (edition w) ws (knotCount w)
 header-passed [] e = absurd (Option·some-ne-none _ e)
 header-passed (w ∷ ws) e =
     let rest : length ws ≡ length (w ∷ ws) - 1 = omega arith in
-    first-later (headerCauses w) (knotsCauses (edition w) (length ws) (knotCount w) none ws) e ∙
-    ap (λ n. first (knotsCauses (edition w) n (knotCount w) none ws)) rest
+    first-later (headerCauses w) (knotsCauses (edition w) (length ws) 0 (knotCount w) none ws) e ∙
+    ap (λ n. first (knotsCauses (edition w) n 0 (knotCount w) none ws)) rest
 
 -- there is a word
 header-there : (ws : List ℕ) → first (headerCauses (getD ws 0 0)) ≡ none → 0 < length ws
@@ -56,12 +60,14 @@ stopped-requires : tie.Need-stopped-requires
 stopped-requires c κs = search needs
 
 -- a fault before the first knot
-stops : {r : Contents} {n : ℕ} (bs : List ℕ) (here : Option ℕ) → Numbers n here → (n ≡ 0 → ⊥) → ((k : ℕ) → here ≡ some k → first (blockCauses bs) ≡ some k) →
-    (r .refusal ≡ n) × (length (r .knots) ≡ knotsMax) × (r .count ≡ 0) →
+stops : {r : Contents} {n : ℕ} (bs : List ℕ) (causes : List Cause) (here : Option ℕ) → here ≡ first causes → Others causes → Numbers n here → (n ≡ 0 → ⊥) →
+    ((k : ℕ) → here ≡ some k → first (blockCauses bs) ≡ some k) →
+    (r .refusal ≡ n) × (length (r .knots) ≡ knotsMax) × (r .count ≡ 0) × (r .reason ≡ Reasons.Nothing) →
     (Reads r (first (blockCauses bs)) (listOf bs)) × (first (blockCauses bs) ≡ none → editionOf bs ≡ plainEdition → block (listOf bs) ≡ bs)
-stops {r} {n} bs here numbered d whole s =
+stops {r} {n} bs causes here is other numbered d whole s =
     let e : here ≡ some n = failed n numbered d in (
-      refuses r (first (blockCauses bs)) here (listOf bs) (rw (s .0) numbered) (rw (s .0) e) (rw (s .0) (whole n e)) (s .1) (omega (arith, s .2)),
+      refuses r (first (blockCauses bs)) here (listOf bs) (rw (s .0) numbered) (rw (s .0) e) (rw (s .0) (whole n e)) (s .1) (omega (arith, s .2)) (s .3)
+          (ap (λ f. reason f (turnProducts 0 none (listOf bs))) is ∙ no-reason causes (turnProducts 0 none (listOf bs)) other),
       λ none-found. absurd (Option·some-ne-none n (sym (whole n e) ∙ none-found)),
     )
 
@@ -71,7 +77,7 @@ returns c =
     let n = c .before .before in
     let bs = n .before .before .before .args .block .now in
     let here = n .before .length-fault in
-    stops bs (refusal (here .result)) (n .number .ensures) (c .before .if1 .taken)
+    stops bs (lengthCauses (length bs)) (refusal (here .result)) (here .ensures) (refl, tt) (n .number .ensures) (c .before .if1 .taken)
     (λ k e. first-found (lengthCauses (length bs)) (wordsCauses (words bs)) (sym (here .ensures) ∙ e)) (c .stopped .ensures)
 
 load-requires : tie.Need-load-requires
@@ -104,7 +110,8 @@ returns-2 c =
     let h = n .before in
     let e = h .before .before in
     let bs = e .before .before .before .before .args .block .now in
-    stops bs (refusal (h .header-fault .result)) (n .number2 .ensures) (c .before .if2 .taken)
+    stops bs (headerCauses (getD (words bs) 0 0)) (refusal (h .header-fault .result)) (sym (header-is h)) (refl, (refl, tt))
+    (n .number2 .ensures) (c .before .if2 .taken)
     (λ k q. length-passed e ∙ header-found (words bs) (header-is h ∙ q)) (c .stopped2 .ensures)
 
 header-quiet : (c : tie.Else2) → let bs = c .before .before .before .before .before .before .before .before .args .block .now in

@@ -13,34 +13,40 @@ use lib.IntN.{ℤ}
 use lib.ListN.{length, getD, drop, set}
 use Rattle.rounding.specs.Limits.{knotsMax, gradeMax, gapMax}
 use Rattle.scans.specs.Scan.{gap, Scan}
-use Rattle.scans.specs.RefusalTable.{first, sizeCauses}
-use Rattle.knot.specs.Machine.{scan, refusal, Numbers}
+use Rattle.scans.specs.SizeRule.{Product, appendProducts, turnProducts, firstTooLarge}
+use Rattle.scans.specs.RefusalTable.{first}
+use Rattle.scans.specs.Reason.{reason}
+use Rattle.knot.specs.Machine.{scan, refusal, spotIn, Numbers}
 use Rattle.following.specs.Machine.{neighbour}
 use Rattle.knot.specs.declared.held.Knot.{Knot}
+use Rattle.knot.specs.declared.reason.Reason.the-variants as Reasons
 use Rattle.knot.specs.declared.table.Refusal.the-variants as Refusals
 use Rattle.scans.proofs.Causes.{quiet, placed}
+use Rattle.scans.proofs.Reason.{no-reason}
 use Rattle.knot.proofs.Numbers.{numbers, passed, failed}
 use Rattle.block.specs.Fields.{kind, position, grade, payload}
 use Rattle.block.specs.Bytes.{words}
-use Rattle.block.specs.Reading.{readingWords, knotCauses, readingCauses, knotsCauses, knotsFrom}
+use Rattle.block.specs.Reading.{readingWords, knotCauses, readingCauses, endCauses, knotsCauses, knotsFrom}
+use Rattle.block.proofs.Reason.{reading-others, end-others}
 use Rattle.block.proofs.Steps.{knot-found}
 use Rattle.block.proofs.Written.{knotWordsMax}
-use Rattle.block_reader.proofs.reader.Come.{fault, Come, Coefficients, refuses, none-yet, one-more, next, from-wrong, from-size-found}
-use Rattle.block_reader.proofs.reader.Come.{from-readings-found, taken, ended}
+use Rattle.block_reader.proofs.reader.Come.{fault, tested, Come, Coefficients, refuses, too-large, none-yet, one-more, next, from-wrong}
+use Rattle.block_reader.proofs.reader.Come.{from-size-found, reason-found, from-readings-found, taken, ended}
 use Rattle.block_reader.proofs.reader.read_knots.Statement.{statement}
 use Rattle.block_reader.proofs.reader.read_knots.Tie as tie
 
 abbrev Inv-loop : tie.InvT-loop
-Inv-loop block edition count knots last k i word fault m coefficients₀ j₀ coefficients j = Coefficients (words block) i m coefficients j
+Inv-loop block edition count knots last reason k i word fault m coefficients₀ j₀ coefficients j = Coefficients (words block) i m coefficients j
 
 abbrev μ-loop : tie.MeasureT-loop
-μ-loop block edition count knots last k i word fault m coefficients₀ j₀ coefficients j = m + 1 - j
+μ-loop block edition count knots last reason k i word fault m coefficients₀ j₀ coefficients j = m + 1 - j
 
 abbrev Inv-words : tie.InvT-words
-Inv-words block edition count knots₀ last₀ k₀ i₀ knots last k i = Come edition (words block) count knots last k i
+Inv-words block edition count knots₀ last₀ reason₀ k₀ i₀ knots last reason k i =
+    Come edition (words block) count knots last k i × (reason ≡ Reasons.Nothing)
 
 abbrev μ-words : tie.MeasureT-words
-μ-words block edition count knots₀ last₀ k₀ i₀ knots last k i = count - k
+μ-words block edition count knots₀ last₀ reason₀ k₀ i₀ knots last reason k i = count - k
 
 free-requires : tie.Need-free-requires Inv-loop μ-loop Inv-words μ-words
 free-requires c κs = search needs
@@ -57,14 +63,15 @@ nothing-yet e ws count knots free room =
       room = room;
       graded = λ j h. absurd (omega arith);
       lastGraded = λ t. absurd (true≢false (sym t));
-      faults = ap (λ n. first (knotsCauses e (length ws - 1) n none (drop 1 ws))) all;
+      faults = ap (λ n. first (knotsCauses e (length ws - 1) 0 n none (drop 1 ws))) all;
       scans = ap (λ n. knotsFrom e n (drop 1 ws)) all;
+      sizes = ap (λ n. firstTooLarge (turnProducts 0 none (knotsFrom e n (drop 1 ws)))) all;
     }
 
 words-holds : tie.Need-words-holds Inv-loop μ-loop Inv-words μ-words
 words-holds c =
     let a = c .before .before .args in
-    nothing-yet (a .edition) (words (a .block .now)) (a .count) _ (c .free .result) refl
+    (nothing-yet (a .edition) (words (a .block .now)) (a .count) _ (c .free .result) refl, refl)
 
 -- ---- a knot word is read
 
@@ -133,13 +140,13 @@ loop-holds : tie.Need-loop-holds Inv-loop μ-loop Inv-words μ-words
 loop-holds c = none-yet (words (c .before .before .before .before .before .before .before .before .before .args .block .now)) _ _ _ refl
 
 add-load : tie.Need-add-load Inv-loop μ-loop Inv-words μ-words
-add-load c = record { fits = omega (arith, between (c .before .before) .words .inv .place, one-more-knot (c .before .before), count-most (c .before .before)) }
+add-load c = let g = c .before .before in record { fits = omega (arith, between g .words .inv .0 .place, one-more-knot g, count-most g) }
 
 add-load-2 : tie.Need-add-load-2 Inv-loop μ-loop Inv-words μ-words
 add-load-2 c = record {
   fits = omega (
     arith,
-    between (c .before .before) .words .inv .place,
+    between (c .before .before) .words .inv .0 .place,
     one-more-knot (c .before .before),
     count-most (c .before .before),
     c .loop-test .taken,
@@ -223,31 +230,42 @@ module _ (c : After-position) where
       moved : {x y : ℕ} (held : Scan) → x ≡ y → gap held y ≤ gapMax → gap held x ≤ gapMax
       moved held e h = rw e h
 
-cast-t35 : tie.Need-cast-t35 Inv-loop μ-loop Inv-words μ-words
-cast-t35 c = record { fits = omega (arith, c .position .ensures) }
-
 cast-t36 : tie.Need-cast-t36 Inv-loop μ-loop Inv-words μ-words
-cast-t36 c = record { fits = omega (arith, grade-most (c .before .before .before)) }
+cast-t36 c = record { fits = omega (arith, c .position .ensures) }
 
-size-cause-requires : tie.Need-size-cause-requires Inv-loop μ-loop Inv-words μ-words
-size-cause-requires c κs =
-    (record { room = c .before .before .loop .inv .room; grade = grade-most (word-read c) }, between (word-read c) .words .inv .lastGraded, close c)
+cast-t37 : tie.Need-cast-t37 Inv-loop μ-loop Inv-words μ-words
+cast-t37 c = record { fits = omega (arith, grade-most (c .before .before .before)) }
+
+cast-follow-reason : tie.Need-cast-follow-reason Inv-loop μ-loop Inv-words μ-words
+cast-follow-reason c = let g = word-read c in record { fits = omega (arith, one-more-knot g, count-most g) }
+
+follow-reason-requires : tie.Need-follow-reason-requires Inv-loop μ-loop Inv-words μ-words
+follow-reason-requires c κs =
+    let g = word-read c in
+    let last = between g .words .inv .0 .lastGraded in
+    (record { room = c .before .before .loop .inv .room; grade = grade-most g }, λ t. (last t .0, omega (arith, last t .1, one-more-knot g)), close c)
+
+enum-known-spot : tie.Need-enum-known-spot Inv-loop μ-loop Inv-words μ-words
+enum-known-spot c = search needs
 
 number-requires-4 : tie.Need-number-requires-4 Inv-loop μ-loop Inv-words μ-words
 number-requires-4 c κs = search needs
 
+enum-told : tie.Need-enum-told Inv-loop μ-loop Inv-words μ-words
+enum-told c = search needs
+
 -- ---- its size is right, and its readings are counted
 
-abbrev Sized : Type 0
-Sized = tie.Else3 Inv-loop μ-loop Inv-words μ-words
+abbrev Kept : Type 0
+Kept = tie.After-enum-told Inv-loop μ-loop Inv-words μ-words
 
-abbrev all-read-at : Sized → After-position
+abbrev all-read-at : Kept → After-position
 all-read-at c = c .before .before .before
 
-module _ (c : Sized) where
-  sized : first (sizeCauses (neighbour (between (word-read (all-read-at c)) .words .last))
+module _ (c : Kept) where
+  kept : firstTooLarge (appendProducts (between (word-read (all-read-at c)) .words .k) (neighbour (between (word-read (all-read-at c)) .words .last))
       (scan (next (all-read-at c .position .result) (word-read (all-read-at c) .grade .result) (all-read-at c .before .before .loop .coefficients)))) ≡ none
-  sized = sym (c .before .before .size-cause .ensures) ∙ passed (c .before .number4 .ensures) (c .if3 .left)
+  kept = sym (c .before .before .follow-reason .ensures) ∙ ap spotIn (c .enum-told .given .1)
 
   -- where its readings start
   abbrev start : ℕ
@@ -259,7 +277,7 @@ module _ (c : Sized) where
   near : start ≤ knotWordsMax * knotsMax
   near =
       let g = word-read (all-read-at c) in
-      omega (arith, between g .words .inv .place, one-more-knot g, count-most g, grade-most g)
+      omega (arith, between g .words .inv .0 .place, one-more-knot g, count-most g, grade-most g)
 
 words-again : tie.Need-words-again Inv-loop μ-loop Inv-words μ-words
 words-again c =
@@ -268,10 +286,12 @@ words-again c =
     let g = word-read p in
     let w = between g in
     let counts = r .count-readings .ensures in
-    let quiet = passed (counts .number) (c .before .if4 .left) in
-    taken (the-edition w) (the-words w) (the-count w) (w .words .knots) (w .words .last) (w .words .k) (w .words .i) (w .words .inv) (one-more-knot g)
-    (p .position .result) (g .grade .result) (p .before .before .loop .coefficients) (word-passed g) (position-is p) (grade-is g) (all-read p)
-    (sized (r .before)) (r .count-readings .result .count) (counts .count quiet) (count-most g) (grade-most g) (counts .few) quiet
+    let quiet = passed (counts .number) (c .before .if3 .left) in (
+      taken (the-edition w) (the-words w) (the-count w) (w .words .knots) (w .words .last) (w .words .k) (w .words .i) (w .words .inv .0) (one-more-knot g)
+          (p .position .result) (g .grade .result) (p .before .before .loop .coefficients) (word-passed g) (position-is p) (grade-is g) (all-read p)
+          (kept (r .before)) (r .count-readings .result .count) (counts .count quiet) (count-most g) (grade-most g) (counts .few) quiet,
+      w .words .inv .1,
+    )
 
 add-behind : tie.Need-add-behind Inv-loop μ-loop Inv-words μ-words
 add-behind c = record { fits = omega (arith, near c) }
@@ -301,24 +321,31 @@ words-less c = let g = word-read (all-read-at (c .before .before .before)) in om
 
 -- what is ahead of the words, with n knots to come
 abbrev ahead : At-words → ℕ → Option ℕ
-ahead w n = first (knotsCauses (the-edition w) (length (the-words w) - 1) n (neighbour (w .words .last)) (drop (w .words .i) (the-words w)))
+ahead w n = first (knotsCauses (the-edition w) (length (the-words w) - 1) (w .words .k) n (neighbour (w .words .last)) (drop (w .words .i) (the-words w)))
+
+-- the products that are tested
+abbrev all-tested : At-words → List Product
+all-tested w = tested (the-edition w) (the-words w) (the-count w)
 
 returns : tie.Need-returns Inv-loop μ-loop Inv-words μ-words
 returns c =
     let t = c .before .before in
     let w = t .before in
-    let come = w .words .inv in
+    let come = w .words .inv .0 in
     let all : w .words .k ≡ the-count w = omega (arith, t .if1 .taken, come .within) in
     let rest : the-count w - w .words .k ≡ 0 = omega (arith, all) in
-    let ends : fault (the-edition w) (the-words w) (the-count w) ≡ refusal (c .before .end-fault .result) =
-    come .faults ∙ ap (λ n. ahead w n) rest ∙
-    sym (c .before .end-fault .ensures) in
+    let end : fault (the-edition w) (the-words w) (the-count w) ≡ first (endCauses (length (the-words w) - 1) (drop (w .words .i) (the-words w))) =
+    come .faults ∙ ap (λ n. ahead w n) rest in
+    let ends : fault (the-edition w) (the-words w) (the-count w) ≡ refusal (c .before .end-fault .result) = end ∙ sym (c .before .end-fault .ensures) in
     record {
       number = rw ends (c .number .ensures);
       room = come .room;
       count = w .before .before .before .pre;
       graded = λ q k h. come .graded k (omega (arith, all));
       scans = λ q. ended (the-edition w) (the-words w) (the-count w) (w .words .knots) (w .words .last) (w .words .k) (w .words .i) come all;
+      reason = ap spotIn (w .words .inv .1) ∙
+          sym (ap (λ f. reason f (all-tested w)) end ∙ no-reason (endCauses (length (the-words w) - 1) (drop (w .words .i) (the-words w))) (all-tested w)
+          (end-others (length (the-words w) - 1) (drop (w .words .i) (the-words w))));
     }
 
 returns-2 : tie.Need-returns-2 Inv-loop μ-loop Inv-words μ-words
@@ -326,14 +353,17 @@ returns-2 c =
     let n = c .before in
     let l = n .before .before in
     let w = l .before .before in
-    let come = w .words .inv in
+    let come = w .words .inv .0 in
     let e = failed (n .number2 .result) (n .number2 .ensures) (c .if2 .taken) in
     let one : the-count w - w .words .k ≡ suc (the-count w - (w .words .k + 1)) = omega (arith, l .before .if1 .left) in
     refuses _ (fault (the-edition w) (the-words w) (the-count w)) (refusal (n .before .knot-fault .result)) _ (n .number2 .ensures) e
     (come .faults ∙ ap (λ m. ahead w m) one ∙
-    knot-found (the-edition w) (length (the-words w) - 1) (the-count w - (w .words .k + 1)) (neighbour (w .words .last)) (the-words w) (w .words .i)
+    knot-found (the-edition w) (length (the-words w) - 1) (w .words .k) (the-count w - (w .words .k + 1)) (neighbour (w .words .last)) (the-words w)
+    (w .words .i)
     (sym (ap (λ u. first (knotCauses (neighbour (w .words .last)) u)) (l .load .ensures .0)) ∙ sym (n .before .knot-fault .ensures) ∙ e))
-    (come .room) (w .before .before .before .pre)
+    (come .room) (w .before .before .before .pre) (w .words .inv .1)
+    (ap (λ f. reason f (all-tested w)) (n .before .knot-fault .ensures) ∙
+    no-reason (knotCauses (neighbour (w .words .last)) (l .load .result)) (all-tested w) (refl, (refl, (refl, tt))))
 
 returns-3 : tie.Need-returns-3 Inv-loop μ-loop Inv-words μ-words
 returns-3 c =
@@ -342,28 +372,31 @@ returns-3 c =
     let w = between g in
     let one = ap some (sym (c .number3 .ensures)) in
     refuses _ (fault (the-edition w) (the-words w) (the-count w)) (some 1) _ (numbered-form (c .number3 .ensures)) one
-    (from-wrong (the-edition w) (the-words w) (the-count w) (w .words .knots) (w .words .last) (w .words .k) (w .words .i) (w .words .inv) (one-more-knot g)
+    (from-wrong (the-edition w) (the-words w) (the-count w) (w .words .knots) (w .words .last) (w .words .k) (w .words .i) (w .words .inv .0) (one-more-knot g)
     (position (getD (the-words w) (w .words .i) 0)) (g .grade .result) (l .before .loop .coefficients) (word-passed g) refl (grade-is g)
     (l .before .loop .j) (l .before .loop .inv) (l .loop-test .taken)
     (λ e. c .before .match .rest .1 (c .before .before .kind .ensures ∙ ap kind (c .before .before .before .load2 .ensures .0) ∙ e)) ∙
     one)
-    (w .words .inv .room) (count-most g)
+    (w .words .inv .0 .room) (count-most g) (w .words .inv .1) refl
   where
     numbered-form : {n : ℕ} → n ≡ 1 → Numbers n (some 1)
     numbered-form e = rw e (numbers Refusals.Form)
 
 returns-4 : tie.Need-returns-4 Inv-loop μ-loop Inv-words μ-words
 returns-4 c =
-    let n = c .before in
-    let p = n .before .before in
+    let f = c .before .before .before .before in
+    let p = f .before in
     let g = word-read p in
     let w = between g in
-    let e = failed (n .number4 .result) (n .number4 .ensures) (c .if3 .taken) in
-    refuses _ (fault (the-edition w) (the-words w) (the-count w)) (refusal (n .before .size-cause .result)) _ (n .number4 .ensures) e
-    (from-size-found (the-edition w) (the-words w) (the-count w) (w .words .knots) (w .words .last) (w .words .k) (w .words .i) (w .words .inv)
+    let found = sym (f .follow-reason .ensures) ∙ ap spotIn (c .before .before .spot .given .1) in
+    too-large _ (fault (the-edition w) (the-words w) (the-count w)) _ (c .number4 .ensures)
+    (from-size-found (the-edition w) (the-words w) (the-count w) (w .words .knots) (w .words .last) (w .words .k) (w .words .i) (w .words .inv .0)
     (one-more-knot g) (p .position .result) (g .grade .result) (p .before .before .loop .coefficients) (word-passed g) (position-is p) (grade-is g) (all-read p)
-    (sym (n .before .size-cause .ensures) ∙ e))
-    (w .words .inv .room) (count-most g)
+    found)
+    (reason-found (the-edition w) (the-words w) (the-count w) (w .words .knots) (w .words .last) (w .words .k) (w .words .i) (w .words .inv .0)
+    (one-more-knot g) (p .position .result) (g .grade .result) (p .before .before .loop .coefficients) (word-passed g) (position-is p) (grade-is g) (all-read p)
+    found)
+    refl (w .words .inv .0 .room) (count-most g)
 
 returns-5 : tie.Need-returns-5 Inv-loop μ-loop Inv-words μ-words
 returns-5 c =
@@ -371,12 +404,13 @@ returns-5 c =
     let p = all-read-at (r .before) in
     let g = word-read p in
     let w = between g in
-    let h = failed (r .count-readings .result .refusal) (r .count-readings .ensures .number) (c .if4 .taken) in
+    let h = failed (r .count-readings .result .refusal) (r .count-readings .ensures .number) (c .if3 .taken) in
     refuses _ (fault (the-edition w) (the-words w) (the-count w)) (first (readingCauses 0 (the-readings (r .before)))) _ (r .count-readings .ensures .number) h
-    (from-readings-found (the-edition w) (the-words w) (the-count w) (w .words .knots) (w .words .last) (w .words .k) (w .words .i) (w .words .inv)
+    (from-readings-found (the-edition w) (the-words w) (the-count w) (w .words .knots) (w .words .last) (w .words .k) (w .words .i) (w .words .inv .0)
     (one-more-knot g) (p .position .result) (g .grade .result) (p .before .before .loop .coefficients) (word-passed g) (position-is p) (grade-is g)
-    (all-read p) (sized (r .before)) h)
-    (w .words .inv .room) (count-most g)
+    (all-read p) (kept (r .before)) h)
+    (w .words .inv .0 .room) (count-most g) (w .words .inv .1)
+    (no-reason (readingCauses 0 (the-readings (r .before))) (all-tested w) (reading-others 0 (the-readings (r .before))))
 
 pub read-knots-spec : {M : Type 1} → statement M
 read-knots-spec =
@@ -408,10 +442,13 @@ read-knots-spec =
     loop-less
     loop-again
     position-requires
-    cast-t35
     cast-t36
-    size-cause-requires
+    cast-t37
+    cast-follow-reason
+    follow-reason-requires
+    enum-known-spot
     number-requires-4
+    enum-told
     add-behind
     add-behind-2
     count-readings-requires

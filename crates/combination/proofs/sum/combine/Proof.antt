@@ -3,7 +3,7 @@ use borrow.Author.Needs.{needs}
 use borrow.Author.Tests.{ltb-false, not-true, not-false}
 use mathlib.Core.Bool.{true, false}
 use mathlib.Core.List.{List, [], _∷_}
-use mathlib.Core.Option.{none}
+use mathlib.Core.Option.{none, some}
 use mathlib.Core.Path.{_≡_, refl, sym, _∙_, ap, subst}
 use native.Mathlib.Omega.{arith}
 use lib.IntN.{ℤ, natAbs}
@@ -13,11 +13,14 @@ use Rattle.integer.proofs.Within.{within-more, within-size}
 use Rattle.rounding.specs.Limits.{multiplierMax}
 use Rattle.scans.specs.Scan.{Scan}
 use Rattle.scans.specs.RefusalTable.{first, badMultiplier}
-use Rattle.scans.specs.Combination.{allAligned}
+use Rattle.scans.specs.SizeRule.{turnProducts}
+use Rattle.scans.specs.Combination.{allAligned, combination}
+use Rattle.scans.specs.Reason.{reason}
 use Rattle.scans.proofs.Causes.{quiet}
+use Rattle.scans.proofs.Reason.{others}
 use Rattle.scans.proofs.Order.{sum-multiplier, sum-unlike, sum-size}
 use Rattle.scans.proofs.Combination.{counts}
-use Rattle.knot.specs.Machine.{Filled, scansIn, refusal}
+use Rattle.knot.specs.Machine.{Filled, scansIn, number, refusal}
 use Rattle.knot.proofs.Lists.{length-scans}
 use Rattle.combination.specs.Machine.{Summable, SumsKnots}
 use Rattle.combination.proofs.sum.Come.{refuses}
@@ -47,7 +50,10 @@ returns : tie.Need-returns
 returns c =
     let t = c .before .before .before in
     let b = t .before in
-    refuses _ _ _ _ refl (sum-multiplier (b .args .alpha) (b .args .beta) (A b) (B b) (sym (found t) ∙ ap refusal (c .before .cause .given .1)))
+    let refused : first (badMultiplier (b .args .alpha) ∷ badMultiplier (b .args .beta) ∷ []) ≡ some (number (c .before .cause .given .0 .0)) =
+    sym (found t) ∙ ap refusal (c .before .cause .given .1) in
+    refuses _ _ _ _ refl (others (badMultiplier (b .args .alpha) ∷ badMultiplier (b .args .beta) ∷ []) (refl, (refl, tt)) refused) refl
+    (sum-multiplier (b .args .alpha) (b .args .beta) (A b) (B b) refused)
 
 enum-told : tie.Need-enum-told
 enum-told c = search needs
@@ -63,7 +69,7 @@ returns-2 : tie.Need-returns-2
 returns-2 c =
     let a = c .before in
     let b = a .before .before .before .before in
-    refuses _ _ _ _ refl (sum-unlike (b .args .alpha) (b .args .beta) (A b) (B b) (passed (a .before))
+    refuses _ _ _ _ refl refl refl (sum-unlike (b .args .alpha) (b .args .beta) (A b) (B b) (passed (a .before))
     (sym (a .all-aligned .ensures) ∙ not-true _ (c .if1 .taken)))
 
 module _ (c : tie.Else1) where
@@ -110,7 +116,12 @@ returns-3 c =
     let s : SumsKnots r (b e .args .count) (b e .args .alpha) (b e .args .beta) (A (b e)) (B (b e)) =
     subst (λ n. SumsKnots r (b e .args .count) (b e .args .alpha) (b e .args .beta) (A (b e)) (scansIn n (b e .args .others))) (sym (as-many e))
     (rw (toZ-ofZ (b e .fits .alpha), toZ-ofZ (b e .fits .beta)) at (c .summed .ensures)) in
-    record { verdict = s .verdict ∙ sym sizes; filled = λ q. s .filled (sym sizes ∙ q); are = λ q. s .are (sym sizes ∙ q) }
+    record {
+      verdict = s .verdict ∙ sym sizes;
+      filled = λ q. s .filled (sym sizes ∙ q);
+      are = λ q. s .are (sym sizes ∙ q);
+      reason = s .reason ∙ sym (ap (λ f. reason f (turnProducts 0 none (combination (b e .args .alpha) (b e .args .beta) (A (b e)) (B (b e))))) sizes);
+    }
 
 pub combine-spec : {M : Type 1} → statement M
 combine-spec =

@@ -1,7 +1,5 @@
 -- `combination::sum::summed` meets its contract, by `Come`.
 use borrow.Author.Needs.{needs}
-use mathlib.Core.Bool.{Bool}
-use mathlib.Core.List.{[], _∷_}
 use mathlib.Core.Path.{_≡_, refl, sym, _∙_, ap}
 use Prim.Native.Nat.{_-_, _<_}
 use native.Mathlib.Omega.{arith}
@@ -9,12 +7,10 @@ use mir.Syntax.{w32}
 use mir.Val.{toZ}
 use mir.Facts.{toZ-ofZ}
 use Rattle.rounding.specs.Limits.{knotsMax}
-use Rattle.scans.specs.RefusalTable.{first, badSize}
 use Rattle.scans.specs.Combination.{combinedScan}
-use Rattle.knot.specs.Machine.{scan, Holds, knotIn, refusal}
+use Rattle.knot.specs.Machine.{scan, Holds, knotIn, spotIn}
 use Rattle.combination.specs.Machine.{limitedScan}
-use Rattle.combination.proofs.sum.Come.{Come, following, none-yet, same-grade, close, verdict-is, one-more, fails, ends}
-use Rattle.combination.proofs.sum.Come.{size-failed, size-kept}
+use Rattle.combination.proofs.sum.Come.{Come, at-knot, none-yet, same-grade, close, found-is, one-more, fails, ends}
 use Rattle.combination.proofs.sum.summed.Statement.{statement}
 use Rattle.combination.proofs.sum.summed.Tie as tie
 
@@ -80,30 +76,32 @@ module _ (c : tie.After-combined-knot Inv-loop μ-loop) where
       (limitedScan (combinedScan (b .args .alpha) (b .args .beta) (scan (knotIn (l .loop .knots) (l .loop .k))) (scan (knotIn (b .args .t4) (l .loop .k)))))
   holds = rw (toZ-ofZ (b .fits .alpha), toZ-ofZ (b .fits .beta)) at (c .combined-knot .ensures)
 
-  -- whether it follows those before it
-  abbrev this : Bool
-  this = following (b .args .alpha) (b .args .beta) (b .args .t2) (b .args .t4) (b .args .count) (l .loop .k)
+cast-follow-reason : tie.Need-cast-follow-reason Inv-loop μ-loop
+cast-follow-reason c = omega (arith, there-k (c .before .before .before))
 
-size-cause-requires : tie.Need-size-cause-requires Inv-loop μ-loop
-size-cause-requires c κs =
-    (holds c .graded, come-in (l c) .lastGraded, close (b c .args .alpha) (b c .args .beta) _ _ _ (b c .pre) _ _ _ (come-in (l c)) (in-list c) _ (holds c))
+follow-reason-requires : tie.Need-follow-reason-requires Inv-loop μ-loop
+follow-reason-requires c κs =
+    let last = come-in (l c) .lastGraded in (
+      holds c .graded,
+      λ t. (last t .0, omega (arith, last t .1, in-list c)),
+      close (b c .args .alpha) (b c .args .beta) _ _ _ (b c .pre) _ _ _ (come-in (l c)) (in-list c) _ (holds c),
+    )
 
-enum-known-cause : tie.Need-enum-known-cause Inv-loop μ-loop
-enum-known-cause c = search needs
+enum-known-spot : tie.Need-enum-known-spot Inv-loop μ-loop
+enum-known-spot c = search needs
 
 -- what is found of it
-found : (t : tie.After-size-cause Inv-loop μ-loop) → let c = t .before in
-    refusal (t .size-cause .result) ≡ first (badSize (this c) ∷ [])
+found : (t : tie.After-follow-reason Inv-loop μ-loop) → let c = t .before in
+    spotIn (t .follow-reason .result) ≡ at-knot (b c .args .alpha) (b c .args .beta) (b c .args .t2) (b c .args .t4) (b c .args .count) (l c .loop .k)
 found t = let c = t .before in
-    verdict-is (b c .args .alpha) (b c .args .beta) _ _ _ (b c .pre) _ _ _ (come-in (l c)) (in-list c) _ (holds c) (t .size-cause .result)
-    (t .size-cause .ensures)
+    t .follow-reason .ensures ∙ found-is (b c .args .alpha) (b c .args .beta) _ _ _ (b c .pre) _ _ _ (come-in (l c)) (in-list c) _ (holds c)
 
 returns : tie.Need-returns Inv-loop μ-loop
 returns c =
     let t = c .before .before .before in
     let k = t .before in
-    let failed = size-failed (this k) (sym (found t) ∙ ap refusal (c .before .cause .given .1)) in
-    fails (b k .args .alpha) (b k .args .beta) _ _ _ (b k .pre) _ (l k .loop .k) (in-list k) (failed .0) (failed .1)
+    fails (b k .args .alpha) (b k .args .beta) _ _ _ (b k .pre) _ _ _ (come-in (l k)) (in-list k) _ (holds k) _ refl refl
+    (sym (found t) ∙ ap spotIn (c .before .spot .given .1))
 
 enum-told : tie.Need-enum-told Inv-loop μ-loop
 enum-told c = search needs
@@ -126,13 +124,13 @@ loop-again c =
     let k = t .before in
     rw (toZ-ofZ (b k .fits .alpha), toZ-ofZ (b k .fits .beta))
     (one-more (b k .args .alpha) (b k .args .beta) _ _ _ (b k .pre) _ _ _ (come-in (l k)) (in-list k) _ (holds k)
-    (size-kept (this k) (sym (found t) ∙ ap refusal (c .enum-told .given .1))))
+    (sym (found t) ∙ ap spotIn (c .enum-told .given .1)))
 
 returns-2 : tie.Need-returns-2 Inv-loop μ-loop
 returns-2 c =
     let l = c .before in
     let b = l .before .before in
-    ends (b .args .alpha) (b .args .beta) _ _ _ (b .pre) _ (l .loop .last) (l .loop .k) (come-in l) (omega arith) refl
+    ends (b .args .alpha) (b .args .beta) _ _ _ (b .pre) _ (l .loop .last) (l .loop .k) (come-in l) (omega arith) refl refl
 
 pub summed-spec : {M : Type 1} → statement M
 summed-spec =
@@ -147,8 +145,9 @@ summed-spec =
     mul-its
     array-copy-out-its
     combined-knot-requires
-    size-cause-requires
-    enum-known-cause
+    cast-follow-reason
+    follow-reason-requires
+    enum-known-spot
     returns
     enum-told
     mul-knots

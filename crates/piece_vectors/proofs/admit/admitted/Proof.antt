@@ -1,9 +1,10 @@
 -- `piece_vectors::admit::admitted` meets its contract: a test for each part of it.
 use borrow.Author.Needs.{needs}
-use borrow.Author.Tests.{not-false}
-use mathlib.Core.Path.{sym, _∙_}
+use mathlib.Core.Path.{sym, _∙_, ap}
 use mathlib.Core.Bool.{true≢false}
 use native.Mathlib.Omega.{arith}
+use Rattle.scans.proofs.SizeRule.{kept-sized}
+use Rattle.knot.specs.Machine.{spotIn}
 use Rattle.piece_vectors.proofs.admit.admitted.Statement.{statement}
 use Rattle.piece_vectors.proofs.admit.admitted.Tie as tie
 
@@ -31,24 +32,40 @@ returns-6 c = λ e. absurd (true≢false (sym e))
 returns-7 : tie.Need-returns-7
 returns-7 c = λ e. absurd (true≢false (sym e))
 
-sized-requires : tie.Need-sized-requires
-sized-requires c κs = search needs
+list-reason-requires : tie.Need-list-reason-requires
+list-reason-requires c κs = search needs
+
+enum-told : tie.Need-enum-told
+enum-told c = search needs
 
 returns-8 : tie.Need-returns-8
 returns-8 c = λ e. absurd (true≢false (sym e))
 
-sized-requires-2 : tie.Need-sized-requires-2
-sized-requires-2 c κs = search needs
+enum-told-2 : tie.Need-enum-told-2
+enum-told-2 c = search needs
+
+list-reason-requires-2 : tie.Need-list-reason-requires-2
+list-reason-requires-2 c κs = search needs
+
+enum-told-3 : tie.Need-enum-told-3
+enum-told-3 c = search needs
 
 returns-9 : tie.Need-returns-9
-returns-9 c = λ e. (
+returns-9 c = λ e. absurd (true≢false (sym e))
+
+enum-told-4 : tie.Need-enum-told-4
+enum-told-4 c = search needs
+
+returns-10 : tie.Need-returns-10
+returns-10 c = λ e. (
   record {
     gapAtLeast = omega arith;
     gapAtMost = omega arith;
     leftGrade = record { atLeast = omega arith; atMost = omega arith };
     rightGrade = record { atLeast = omega arith; atMost = omega arith };
-    leftSize = sym (c .before .before .sized .ensures) ∙ not-false _ (c .before .if8 .left);
-    rightSize = sym (c .sized2 .ensures) ∙ e;
+    leftSize = let o = c .before .before .before in
+        kept-sized 0 _ _ (sym (o .before .before .list-reason .ensures) ∙ ap spotIn (o .enum-told2 .given .1));
+    rightSize = kept-sized 1 _ _ (sym (c .before .before .list-reason2 .ensures) ∙ ap spotIn (c .enum-told4 .given .1));
   },
   omega arith,
 )
@@ -65,7 +82,12 @@ admitted-spec =
     returns-5
     returns-6
     returns-7
-    sized-requires
+    list-reason-requires
+    enum-told
     returns-8
-    sized-requires-2
-    returns-9)
+    enum-told-2
+    list-reason-requires-2
+    enum-told-3
+    returns-9
+    enum-told-4
+    returns-10)

@@ -2,7 +2,7 @@
 use borrow.Author.Needs.{needs}
 use mathlib.Core.List.{List, [], _∷_, map}
 use mathlib.Core.Option.{Option, none, some}
-use mathlib.Core.Path.{_≡_, refl, sym, _∙_, ap, ap₂, subst}
+use mathlib.Core.Path.{_≡_, refl, sym, _∙_, ap, ap₂, subst, subst₂}
 use Prim.Native.Nat.{ℕ, suc, _+_, _-_, _*_, _/_, _^_, _≤_, _<_}
 use native.Mathlib.Nat.{mod-lt}
 use native.Mathlib.Omega.{arith}
@@ -25,12 +25,12 @@ use Rattle.readings.specs.Machine.{Spans}
 use Rattle.readings.proofs.finding.span_of.Statement.{statement}
 use Rattle.readings.proofs.finding.span_of.Tie as tie
 
--- j knots are passed, in a block of n knots, and the word of the next is i: no fault is ahead, and the readings looked for are those from here
+-- j knots are passed, in a block of n knots, and the word of the next, knot j, is i: no fault is ahead, and the readings looked for are those from here
 record Come (e : ℕ) (ws : List ℕ) (n k j i : ℕ) : Type 0 where
   within : j ≤ k
   place : i ≤ knotWordsMax * j + 1
   last : Option Scan
-  quiet : Quiet (knotsCauses e (length ws - 1) (n - j) last (drop i ws))
+  quiet : Quiet (knotsCauses e (length ws - 1) j (n - j) last (drop i ws))
   readings : getD (readingsFrom e n (drop 1 ws)) k [] ≡ getD (readingsFrom e (n - j) (drop i ws)) (k - j) []
 
 module _ (e : ℕ) (ws : List ℕ) (n k j i : ℕ) (come : Come e ws n k j i) (h : k < n) (most : n ≤ knotsMax) (m : ℕ) (m-is : m ≡ grade (getD ws i 0)) where
@@ -47,15 +47,15 @@ module _ (e : ℕ) (ws : List ℕ) (n k j i : ℕ) (come : Come e ws n k j i) (h
   one-left : n - j ≡ suc more
   one-left = omega (arith, come .within)
 
-  ahead : Quiet (knotsCauses e (length ws - 1) (suc more) (come .last) (drop i ws))
-  ahead = subst (λ a. Quiet (knotsCauses e (length ws - 1) a (come .last) (drop i ws))) one-left (come .quiet)
+  ahead : Quiet (knotsCauses e (length ws - 1) j (suc more) (come .last) (drop i ws))
+  ahead = subst (λ a. Quiet (knotsCauses e (length ws - 1) j a (come .last) (drop i ws))) one-left (come .quiet)
 
   here : drop i ws ≡ w ∷ drop (suc i) ws
-  here = drop-cons ws i 0 (knot-there e (length ws - 1) more (come .last) ws i ahead)
+  here = drop-cons ws i 0 (knot-there e (length ws - 1) j more (come .last) ws i ahead)
 
-  knot : Taken e (length ws - 1) more (come .last) w (drop (suc i) ws)
-  knot = taken e (length ws - 1) more (come .last) w (drop (suc i) ws)
-      (subst (λ l. Quiet (knotsCauses e (length ws - 1) (suc more) (come .last) l)) here ahead)
+  knot : Taken e (length ws - 1) j more (come .last) w (drop (suc i) ws)
+  knot = taken e (length ws - 1) j more (come .last) w (drop (suc i) ws)
+      (subst (λ l. Quiet (knotsCauses e (length ws - 1) j (suc more) (come .last) l)) here ahead)
 
   behind-it : behind w (drop (suc i) ws) ≡ rest
   behind-it = let there : suc i + (grade w + 1) ≡ i + m + 2 = omega arith in drop-drop (grade w + 1) (suc i) ws ∙ ap (λ a. drop a ws) there
@@ -84,12 +84,13 @@ module _ (e : ℕ) (ws : List ℕ) (n k j i : ℕ) (come : Come e ws n k j i) (h
     pass : (j ≡ k → ⊥) → Come e ws n k (j + 1) (i + m + 2 + r .count)
     pass d =
         let later : k - j ≡ suc (k - (j + 1)) = omega (arith, come .within) in
+        let next : suc j ≡ j + 1 = omega arith in
         record {
           within = omega (arith, come .within);
           place = omega (arith, come .place, low, counts .few);
           last = some (scanFrom w (drop (suc i) ws));
-          quiet = subst (λ l. Quiet (knotsCauses e (length ws - 1) more (some (scanFrom w (drop (suc i) ws))) l)) (ap (afterReadings e) behind-it ∙ past-it)
-              (knot .later);
+          quiet = subst₂ (λ a l. Quiet (knotsCauses e (length ws - 1) a more (some (scanFrom w (drop (suc i) ws))) l)) next
+              (ap (afterReadings e) behind-it ∙ past-it) (knot .later);
           readings = come .readings ∙ ap₂ (λ l a. getD l a []) readings-here later ∙ ap (λ l. getD (readingsFrom e more l) (k - (j + 1)) []) past-it;
         }
 
@@ -110,19 +111,19 @@ module _ (e : ℕ) (ws : List ℕ) (n k j i : ℕ) (come : Come e ws n k j i) (h
 record Whole (bs : List ℕ) (k : ℕ) : Type 0 where
   there : k < knotCount (getD (words bs) 0 0)
   most : knotCount (getD (words bs) 0 0) ≤ knotsMax
-  quiet : let w = getD (words bs) 0 0 in Quiet (knotsCauses (edition w) (length (words bs) - 1) (knotCount w) none (drop 1 (words bs)))
+  quiet : let w = getD (words bs) 0 0 in Quiet (knotsCauses (edition w) (length (words bs) - 1) 0 (knotCount w) none (drop 1 (words bs)))
   readings : let w = getD (words bs) 0 0 in readingsOf bs k ≡ getD (readingsFrom (edition w) (knotCount w) (drop 1 (words bs))) k []
 
 the-block : (bs : List ℕ) (k : ℕ) → Accepted bs → k < length (listOf bs) → Whole bs k
 unfolding listOf readingsOf
 the-block bs k a h =
     let count : length (listOf bs) ≡ knotCount (a .head) =
-    rw (a .wordsAre) (knots-count (edition (a .head)) (length (a .others)) (knotCount (a .head)) none (a .others) (a .knots)) in
+    rw (a .wordsAre) (knots-count (edition (a .head)) (length (a .others)) 0 (knotCount (a .head)) none (a .others) (a .knots)) in
     let before : length (a .others) ≡ length (a .head ∷ a .others) - 1 = omega arith in
     record {
       there = rw (a .wordsAre) (omega (arith, count));
       most = rw (a .wordsAre) (a .header .count);
-      quiet = rw (a .wordsAre) (subst (λ b. Quiet (knotsCauses (edition (a .head)) b (knotCount (a .head)) none (a .others))) before (a .knots));
+      quiet = rw (a .wordsAre) (subst (λ b. Quiet (knotsCauses (edition (a .head)) b 0 (knotCount (a .head)) none (a .others))) before (a .knots));
       readings = rw (a .wordsAre) refl;
     }
 
@@ -139,7 +140,7 @@ the-block-of c = let b = c .before .before .before in the-block (b .args .block 
 edition-is : (c : tie.After-edition Inv-loop μ-loop) → edition (getD (words (c .before .before .before .args .block .now)) 0 0) ≡ c .edition .result
 edition-is c = sym (c .edition .ensures ∙ ap edition (c .before .load .ensures .0))
 
-nothing-yet : (e : ℕ) (ws : List ℕ) (n k : ℕ) → Quiet (knotsCauses e (length ws - 1) n none (drop 1 ws)) → Come e ws n k 0 1
+nothing-yet : (e : ℕ) (ws : List ℕ) (n k : ℕ) → Quiet (knotsCauses e (length ws - 1) 0 n none (drop 1 ws)) → Come e ws n k 0 1
 nothing-yet e ws n k q =
     let all : n ≡ n - 0 = omega arith in
     let same : k ≡ k - 0 = omega arith in
@@ -147,7 +148,7 @@ nothing-yet e ws n k q =
       within = omega arith;
       place = omega arith;
       last = none;
-      quiet = subst (λ m. Quiet (knotsCauses e (length ws - 1) m none (drop 1 ws))) all q;
+      quiet = subst (λ m. Quiet (knotsCauses e (length ws - 1) 0 m none (drop 1 ws))) all q;
       readings = ap₂ (λ m a. getD (readingsFrom e m (drop 1 ws)) a []) all same;
     }
 
@@ -156,7 +157,8 @@ loop-holds c =
     let a = c .before .before .before .args in
     let ws = words (a .block .now) in
     let n = knotCount (getD ws 0 0) in
-    nothing-yet (c .edition .result) ws n (a .k) (subst (λ e. Quiet (knotsCauses e (length ws - 1) n none (drop 1 ws))) (edition-is c) (the-block-of c .quiet))
+    nothing-yet (c .edition .result) ws n (a .k)
+    (subst (λ e. Quiet (knotsCauses e (length ws - 1) 0 n none (drop 1 ws))) (edition-is c) (the-block-of c .quiet))
 
 -- a knot is due
 module _ (c : tie.After-grade Inv-loop μ-loop) where

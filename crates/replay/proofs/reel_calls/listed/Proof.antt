@@ -52,6 +52,9 @@ part-coefficients-end c = search needs
 append-requires : tie.Need-append-requires Inv-loop μ-loop
 append-requires c κs = search needs
 
+append-reason-requires : tie.Need-append-reason-requires Inv-loop μ-loop
+append-reason-requires c κs = search needs
+
 told-requires : tie.Need-told-requires Inv-loop μ-loop
 told-requires c κs = search needs
 
@@ -60,6 +63,9 @@ returns c = search needs
 
 correct-requires : tie.Need-correct-requires Inv-loop μ-loop
 correct-requires c κs = search needs
+
+correct-reason-requires : tie.Need-correct-reason-requires Inv-loop μ-loop
+correct-reason-requires c κs = search needs
 
 told-requires-2 : tie.Need-told-requires-2 Inv-loop μ-loop
 told-requires-2 c κs = search needs
@@ -86,8 +92,10 @@ listed-spec =
     part-coefficients-start
     part-coefficients-end
     append-requires
+    append-reason-requires
     told-requires
     returns
     correct-requires
+    correct-reason-requires
     told-requires-2
     returns-2)

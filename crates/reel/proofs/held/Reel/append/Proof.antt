@@ -13,6 +13,7 @@ use Rattle.knot.specs.Machine.{refusal}
 use Rattle.knot.proofs.Lists.{graded-stored}
 use Rattle.first_cause.specs.Machine.{Finds}
 use Rattle.calls.specs.Calls.{append, causes}
+use Rattle.calls.specs.Reason.{tested}
 use Rattle.reel.specs.Machine.{scans}
 use Rattle.reel.proofs.Scans.{before-graded, scans-appended}
 use Rattle.reel.proofs.held.Promises.{refuses, accepts}
@@ -39,7 +40,7 @@ start t = t .before .before .before
 -- the causes, with the last knot, are the call's
 finds : (t : tie.After-append-cause) → let b = start t in
     Finds (t .append-cause .result) (causes (append (b .args .position) (b .args .coefficients .now)) (scans (b .args .t1)))
-    (scanOf (b .args .position) (b .args .coefficients .now))
+    (tested (append (b .args .position) (b .args .coefficients .now)) (scans (b .args .t1))) (scanOf (b .args .position) (b .args .coefficients .now))
 finds t = let b = start t in append-finds (b .args .t1) (b .pre) _ (b .args .position) (b .args .coefficients .now) _
     (t .before .before .before2 .ensures) (t .append-cause .ensures)
 

@@ -6,14 +6,15 @@ use Prim.Native.Nat.{ℕ, _<_}
 use native.Mathlib.Omega.{arith}
 use lib.ListN.{length-set, set}
 use Rattle.scans.specs.RefusalTable.{first}
-use Rattle.knot.specs.Machine.{refusal, scan}
+use Rattle.knot.specs.Machine.{refusal}
 use Rattle.knot.proofs.Lists.{graded-stored}
 use Rattle.first_cause.specs.Machine.{Finds}
 use Rattle.calls.specs.Calls.{correct, causes, corrected}
-use Rattle.reel.specs.Machine.{scans, knotAt}
-use Rattle.reel.proofs.Scans.{gap-before, gap-after, scans-corrected}
+use Rattle.calls.specs.Reason.{tested}
+use Rattle.reel.specs.Machine.{scans}
+use Rattle.reel.proofs.Scans.{scans-corrected}
 use Rattle.reel.proofs.held.Promises.{refuses, accepts}
-use Rattle.reel.proofs.held.Found.{correct-finds, correct-there}
+use Rattle.reel.proofs.held.Found.{correct-close, correct-finds, correct-there}
 use Rattle.reel.proofs.held.Reel.correct.Statement.{statement}
 use Rattle.reel.proofs.held.Reel.correct.Tie as tie
 
@@ -59,17 +60,15 @@ module _ (f : tie.After-following) where
   here h = omega (arith, f .before .before .before .before .before .inside .ensures, h, start f .pre .filled .count)
 
 correct-cause-requires : tie.Need-correct-cause-requires
-correct-cause-requires c κs h =
+correct-cause-requires c κs =
     let b = start c in
-    let r = b .args .t1 in
-    let e = here c h in (
-      gap-before r (b .pre) (b .args .k) _ _ (omega (arith, c .before .before .before .before2 .ensures, e)) h (ap (λ n. knotAt r n .position) e),
-      gap-after r (b .pre) (b .args .k) _ (scan (knotAt r (at-old c))) (omega (arith, c .before .inside2 .ensures, e)) (ap (λ n. knotAt r n .position) e),
-    )
+    correct-close (b .args .t1) (b .pre) (b .args .k) _ _ _ (c .before .before .before .before .before .inside .ensures)
+    (c .before .before .before .before2 .ensures) (c .before .inside2 .ensures)
 
 -- the causes, with the knots beside knot k, are the call's
 finds : (t : tie.After-correct-cause) → let b = start (t .before) in
     Finds (t .correct-cause .result) (causes (correct (b .args .k) (b .args .coefficients .now)) (scans (b .args .t1)))
+    (tested (correct (b .args .k) (b .args .coefficients .now)) (scans (b .args .t1)))
     (corrected (scans (b .args .t1)) (b .args .k) (b .args .coefficients .now))
 finds t =
     let f = t .before in
