@@ -126,14 +126,15 @@ def tell_pairs(times):
 
 
 def call_counts(folder, name):
-    """Instructions outside memcpy on both sides, and copies and bytes after. An append stands behind a read of its
-    block, which is taken off."""
+    """Instructions outside memcpy on both sides, and copies and bytes after. An append and a same stand behind a read of
+    the block, which is taken off."""
     found = [instructions(folder, side, "reel", name, KNOTS_MAX)[0] for side in SIDES]
     found += copies(folder, "after", "reel", name, KNOTS_MAX)
-    if name != "append":
+    if name not in ("append", "same"):
         return found
-    read = [instructions(folder, side, "reel", "read", KNOTS_MAX - 1)[0] for side in SIDES]
-    read += copies(folder, "after", "reel", "read", KNOTS_MAX - 1)
+    count = KNOTS_MAX - (name == "append")
+    read = [instructions(folder, side, "reel", "read", count)[0] for side in SIDES]
+    read += copies(folder, "after", "reel", "read", count)
     return [a - b for a, b in zip(found, read)]
 
 

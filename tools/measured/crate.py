@@ -109,7 +109,8 @@ PIECES = {
 }
 
 # The place of a query and of a correct moves with each turn, so that no turn can be taken for the one before it. An
-# append needs room: it stands behind a read of its block, and the time of a read is taken off.
+# append needs room, and a same another reel: they stand behind a read of the block, and the time of a read is taken off.
+# The other reel is the same; if same said no, the reel would be cleared, and the length of its last block would tell.
 CALLS = {
     "append": "let read = reel.read(block);\n    let room = read.reel;\n    room.append(x, list)",
     "correct": "reel.correct(i & 1, list)",
@@ -118,6 +119,7 @@ CALLS = {
     "value": "reel.value(x ^ (i & 63))",
     "trend": "reel.trend(x ^ (i & 63))",
     "total": "reel.total(0, x)",
+    "same": "let read = reel.read(block);\n    let other = read.reel;\n    if reel.same(other) {\n        return read;\n    }\n    reel.clear()",
 }
 
 

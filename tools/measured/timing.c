@@ -19,7 +19,7 @@ typedef int64_t reel_function(const uint8_t *, size_t, const int32_t *, size_t, 
 #define SIDES(name) before_##name, after_##name
 extern piece_function SIDES(value), SIDES(trend), SIDES(total);
 extern reel_function SIDES(reel_append), SIDES(reel_correct), SIDES(reel_read), SIDES(reel_write);
-extern reel_function SIDES(reel_value), SIDES(reel_trend), SIDES(reel_total);
+extern reel_function SIDES(reel_value), SIDES(reel_trend), SIDES(reel_total), SIDES(reel_same);
 
 struct piece_measure { const char *name; piece_function *side[2]; };
 struct reel_measure { const char *name; reel_function *side[2]; };
@@ -28,7 +28,7 @@ static const struct piece_measure pieces[] = {{"value", {SIDES(value)}}, {"trend
 static const struct reel_measure calls[] = {
     {"append", {SIDES(reel_append)}}, {"correct", {SIDES(reel_correct)}}, {"read", {SIDES(reel_read)}},
     {"write", {SIDES(reel_write)}},   {"value", {SIDES(reel_value)}},     {"trend", {SIDES(reel_trend)}},
-    {"total", {SIDES(reel_total)}}};
+    {"total", {SIDES(reel_total)}},   {"same", {SIDES(reel_same)}}};
 static const int counts[] = {COUNTS};
 #define EACH(i, list) (size_t i = 0; i < sizeof list / sizeof *list; i++)
 
@@ -171,8 +171,8 @@ static void all_times(void)
             double time[2], read[2];
             int append = !strcmp(calls[m].name, "append");
             call_times(&calls[m], counts[c] - append, time);
-            if (append) {
-                call_times(call_named("read"), counts[c] - 1, read);
+            if (append || !strcmp(calls[m].name, "same")) {
+                call_times(call_named("read"), counts[c] - append, read);
                 for (int s = 0; s < 2; s++) time[s] -= read[s];
             }
             tell("reel", calls[m].name, counts[c], time);
