@@ -1,5 +1,5 @@
 #!/usr/bin/env python3
-"""Document 01 in exact fractions, with requests 1/14 and 3/14 to 6/14 of document 02: what the engine's numbers are
+"""Document 01 in exact fractions, with requests 1/14 and 3/14 to 7/14 of document 02: what the engine's numbers are
 held against.
 
 Written from the documents, in their letters, and not from the Rattle text: the blend is formula (1)
@@ -20,8 +20,9 @@ files that `vectors` makes. The documents stand in document/, what the stored fi
                     block, its report and its text, the stored reports; of blocks by chance, text and bytes with
                     readings, that the operator's answers skip these, and the views; of sums of reels, over all
                     grades and gaps, the blends, totals and values; of calls by chance, that a 6 names the first
-                    coefficient that was too large; and the replay script, with the reel's round trip after every
-                    call and that of every block it accepts
+                    coefficient that was too large; of reels that differ in one thing, that they are not the same;
+                    and the replay script, with the reel's round trip after every call and that of every block it
+                    accepts
   exact.py averages the mean errors of values and trends at many places: every rounding down, they lean; to nearest,
                     as request 5/14 has it, no more is left than halves up bring
 """
@@ -42,6 +43,7 @@ from document.piece import case
 from document.places import hold_places
 from document.readings import hold_readings
 from document.report import report_of
+from document.same import hold_sames
 from document.sweep import hold_halves, hold_integral_weights, hold_need_of_distances, hold_sweep
 from document.text import Unreadable, contents_of_text, text_of
 from document.texts import hold_texts
@@ -114,6 +116,7 @@ def check():
     print(f"{hold_readings()} pairs of blocks that differ only in readings and end count give the same list and report")
     print("{} sums of reels held, {} of them refused".format(*hold_combinations()))
     print("{} calls by chance held, {} of which name the first coefficient that was too large".format(*hold_places()))
+    print("{} pairs of reels that differ in one thing are not the same; {} of them agree at each scan".format(*hold_sames()))
     script = transcript()
     print(f"the worked block held; {len(script.answers)} calls of the replay script answered, {script.round_trips} round trips held")
 

@@ -1,4 +1,4 @@
-"""The reel with its calls and queries, what a reel is, and the call same."""
+"""The reel with its calls and queries, and what a reel is."""
 from functools import cache
 
 from document.block import block_of, knots_of
@@ -129,8 +129,3 @@ def hold_standing(knots):
         hold(keeps_size_rule(coefficients, gaps[max(k - 1, 0) : k + 1] or [1]), "size rule at", k, knots)
     for k in range(len(gaps)):
         hold_ends(Reel(knots).piece(k))
-
-
-def same(reel, other):
-    """Counts, positions and every C_0."""
-    return [(position, c[0]) for position, c in reel.knots] == [(position, c[0]) for position, c in other.knots]

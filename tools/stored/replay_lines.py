@@ -4,7 +4,8 @@ import re
 from document.block import block_of
 from document.combination import combination
 from document.knot import TooLarge
-from document.reel import Reel, same
+from document.reel import Reel
+from document.same import same
 from document.text import Unreadable, signed, unsigned, whole
 from document.view import view, view_at
 

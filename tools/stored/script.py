@@ -30,6 +30,10 @@ from stored.parts.rounding import (
     many_roundings, rounded_sums, trends_at_halves, trends_beside_halves, trends_with_halves_within, values_at_halves,
     values_beside_halves, values_with_halves_within,
 )
+from stored.parts.same import (
+    coefficients_exchanged, each_bit_of_a_coefficient, each_bit_of_a_position, full_reels_compared, lowered_grades,
+    one_thing_changed, same_with_readings, unlike_grades,
+)
 from stored.replay_lines import answers_to
 from stored.transcript import Transcript
 
@@ -106,6 +110,14 @@ PARTS = [
     too_large_in_wide_sums,
     other_causes_of_sums,
     too_large_by_chance,
+    unlike_grades,
+    one_thing_changed,
+    coefficients_exchanged,
+    each_bit_of_a_coefficient,
+    each_bit_of_a_position,
+    lowered_grades,
+    same_with_readings,
+    full_reels_compared,
     the_last_line,
 ]
 

@@ -16,7 +16,7 @@ use Rattle.calls.specs.Calls.{accepted, number, read, write, causes, rep
 use Rattle.calls.proofs.Effects.{acceptance-replies, acceptance-leaves, acceptance-writes, number-quiet}
 
 -- where a write answers a number, that many bytes in front of the output are the block
-front-is : (list : List Scan) (out : List ℕ) (n : ℕ) → replyTo (write out) list ≡ number (pos n) → take n (output (write out) list) ≡ block list
+pub front-is : (list : List Scan) (out : List ℕ) (n : ℕ) → replyTo (write out) list ≡ number (pos n) → take n (output (write out) list) ≡ block list
 front-is list out n e =
     let a = number-quiet (write out) list e in
     let size : n ≡ length (block list) = cc (a .1) in

@@ -1,23 +1,47 @@
--- Document 01, "Refusal table": the call Same.
-use mathlib.Core.Bool.{Bool, _&&_}
-use mathlib.Core.List.{List}
+-- Request 7/14: the call Same, which document 01 has under "Refusal table".
+use mathlib.Core.Bool.{Bool, true, false, _&&_}
+use mathlib.Core.List.{List, [], _∷_}
 use mathlib.Core.Path.{_≡_}
-use Prim.Native.Nat.{ℕ, _<_}
+use Prim.Native.Nat.{ℕ}
 use lib.Dec.{eqb}
-use lib.ListN.{length}
-use Rattle.integer.specs.Tests.{equal}
-use Rattle.scans.specs.Scan.{Scan, at, moisture, pairwise}
+use lib.IntN.{ℤ, pos}
+use lib.ListN.{getD}
+use Rattle.integer.specs.Tests.{equal, pairwise}
+use Rattle.scans.specs.Scan.{Scan, scanOf, leftList}
+use Rattle.scans.specs.Standing.{Standing}
+use Rattle.scans.specs.Combination.{aligned}
+use Rattle.block.specs.Block.{block}
 
--- the position and C_0 of two scans agree
+-- "positions, grades and all coefficients agree", of two scans: the position and the grade as for a sum of reels
 abbrev pub agree : Scan → Scan → Bool
-agree s t = eqb (s .position) (t .position) && equal (moisture s) (moisture t)
+agree s t = aligned s t && pairwise equal (s .coefficients) (t .coefficients)
 
--- yes exactly when the knot counts, positions and every C_0 agree
+-- "yes exactly when knot counts, positions, grades and all coefficients agree"
 unfoldable pub same : List Scan → List Scan → Bool
 same = pairwise agree
 
--- (for the law on it) the knot counts, positions and every C_0 agree, as facts
-pub record Agreeing (scans others : List Scan) : Type 0 where
-  pub counts : length scans ≡ length others
-  pub positions : (k : ℕ) → k < length scans → at scans k .position ≡ at others k .position
-  pub moistures : (k : ℕ) → k < length scans → moisture (at scans k) ≡ moisture (at others k)
+-- "the old" meaning, document 01's, for the laws on it alone: the knot counts, positions and every C_0, the moisture at
+-- the scan, agree
+abbrev pub moisture : Scan → ℤ
+moisture s = getD (leftList s) 0 (pos 0)
+
+abbrev pub sameMoistures : List Scan → List Scan → Bool
+sameMoistures = pairwise (λ s t. eqb (s .position) (t .position) && equal (moisture s) (moisture t))
+
+-- what the request says of a yes, of two lists of scans
+pub record SameLaws (A B : List Scan) : Type 0 where
+  -- yes exactly when the two are one list
+  pub yesEqual : same A B ≡ true → A ≡ B
+  pub equalYes : A ≡ B → same A B ≡ true
+  -- "which is when the written bytes agree"
+  pub yesBytes : same A B ≡ true → block A ≡ block B
+  pub bytesYes : Standing A → Standing B → block A ≡ block B → same A B ≡ true
+  -- "A yes under the new meaning is a yes under the old"
+  pub yesOld : same A B ≡ true → sameMoistures A B ≡ true
+
+-- "Two reels that agreed at each scan but not in slope were filed as one": of one scan each, with C_0 = c in both and
+-- the slopes d and e, the old meaning says yes; now they are told apart. By C_0 the old meaning told them apart too
+pub record ToldApart (x : ℕ) (b c d e : ℤ) : Type 0 where
+  pub oldYes : sameMoistures (scanOf x (c ∷ d ∷ []) ∷ []) (scanOf x (c ∷ e ∷ []) ∷ []) ≡ true
+  pub newNo : (d ≡ e → ⊥) → same (scanOf x (c ∷ d ∷ []) ∷ []) (scanOf x (c ∷ e ∷ []) ∷ []) ≡ false
+  pub oldNo : (b ≡ c → ⊥) → sameMoistures (scanOf x (b ∷ d ∷ []) ∷ []) (scanOf x (c ∷ d ∷ []) ∷ []) ≡ false

@@ -6,7 +6,7 @@ use knot::KNOTS_MAX;
 use knot::Knot;
 
 // Whether two knots agree in position and grade.
-fn aligned(a: Knot, b: Knot) -> bool
+pub(crate) fn aligned(a: Knot, b: Knot) -> bool
     requires { ⌜ (Graded a) × (Graded b) ⌝ }
     ensures { λ r. ⌜ r ≡ Combination·aligned (scan a) (scan b) ⌝ }
 {

@@ -3,12 +3,26 @@
 use borrow.Author.Tests.{eqb-true}
 use mathlib.Core.Path.{_≡_}
 use mathlib.Core.Bool.{Bool, true, _&&_}
-use Prim.Native.Nat.{ℕ, suc, _≤_}
+use Prim.Native.Nat.{ℕ, zero, suc, _≤_, _<_}
+use native.Mathlib.Decide.{ℕ-discrete}
 use native.Mathlib.Omega.{arith}
 use lib.Dec.{eqb}
 use lib.IntN.{ℤ}
-use Rattle.integer.specs.Tests.{each, equal}
-use Rattle.integer.proofs.Tests.{both-first, both-second, each-at, equal→eq}
+use Rattle.integer.specs.Tests.{equal}
+use Rattle.integer.proofs.Tests.{both-first, both-second, equal→eq}
+
+-- f 0, f 1, .. up to f (n − 1) are all true
+abbrev each : ℕ → (ℕ → Bool) → Bool
+each zero f = true
+each (suc n) f = each n f && f n
+
+each-at : (n : ℕ) (f : ℕ → Bool) → each n f ≡ true → (k : ℕ) → k < n → f k ≡ true
+each-at zero f e k h = absurd (omega arith)
+each-at (suc n) f e k h = go (ℕ-discrete k n) (each-at n f (both-first (each n f) (f n) e) k)
+  where
+    go : Dec (k ≡ n) → (k < n → f k ≡ true) → f k ≡ true
+    go (yes q) ih = rw q (both-second (each n f) (f n) e)
+    go (no q) ih = ih (omega arith)
 
 infix 4 _≐_ _≗_
 infixr 3 _&_

@@ -1,19 +1,19 @@
--- What the tests say: `each` is true exactly where every number below the bound passes, `equal` where the numbers are equal; and what
--- `firstOf` finds in two lists one after the other.
+-- What the tests say: `equal` is true exactly where the numbers are equal, `pairwise` where the lists have as many entries and the two at
+-- each place pass; and what `firstOf` finds in two lists one after the other.
 use borrow.Author.Tests.{eqb-true, eq-eqb, ne-eqb}
 use mathlib.Core.Bool.{Bool, true, false, _&&_, cond, true≢false}
 use mathlib.Core.List.{List, [], _∷_, _++_}
 use mathlib.Core.Option.{Option, none, some, Option·some-ne-none}
-use mathlib.Core.Path.{_≡_, refl, sym, _∙_, ap}
+use mathlib.Core.Path.{_≡_, refl, sym, _∙_, ap, ap₂}
 use Prim.Native.Nat.{ℕ, zero, suc, _<_}
-use native.Mathlib.Decide.{ℕ-discrete}
 use native.Mathlib.Omega.{arith}
 use lib.Dec.{eqb}
 use lib.IntN.{ℤ, pos, negsuc, ℤ-discrete}
+use lib.ListN.{length, getD}
 use mir.Syntax.{Width}
 use mir.Val.{SFits, toZ, ofZ}
 use mir.Facts.{toZ-ofZ}
-use Rattle.integer.specs.Tests.{each, equal, firstOf}
+use Rattle.integer.specs.Tests.{equal, pairwise, firstOf}
 
 -- both of two tests
 pub both-first : (a b : Bool) → (a && b) ≡ true → a ≡ true
@@ -32,37 +32,15 @@ pub not-yes : (b : Bool) → (b ≡ true → ⊥) → b ≡ false
 not-yes true h = absurd (h refl)
 not-yes false h = refl
 
-pub each-at : (n : ℕ) (f : ℕ → Bool) → each n f ≡ true → (k : ℕ) → k < n → f k ≡ true
-each-at zero f e k h = absurd (omega arith)
-each-at (suc n) f e k h = go (ℕ-discrete k n) (each-at n f (both-first (each n f) (f n) e) k)
-  where
-    go : Dec (k ≡ n) → (k < n → f k ≡ true) → f k ≡ true
-    go (yes q) ih = rw q (both-second (each n f) (f n) e)
-    go (no q) ih = ih (omega arith)
-
-pub each-all : (n : ℕ) (f : ℕ → Bool) → ((k : ℕ) → k < n → f k ≡ true) → each n f ≡ true
-each-all zero f h = refl
-each-all (suc n) f h = both (each-all n f (λ k b. h k (omega arith))) (h n (omega arith))
-
-pub each-same : (n : ℕ) (f g : ℕ → Bool) → ((k : ℕ) → k < n → f k ≡ g k) → each n f ≡ each n g
-each-same zero f g e = refl
-each-same (suc n) f g e = rw (each-same n f g (λ k h. e k (omega arith)), e n (omega arith)) refl
-
-pub each-fails : (n : ℕ) (f : ℕ → Bool) (k : ℕ) → k < n → f k ≡ false → each n f ≡ false
-each-fails n f k h e = not-yes (each n f) (λ q. true≢false (sym (each-at n f q k h) ∙ e))
-
 pub equal→eq : (x y : ℤ) → equal x y ≡ true → x ≡ y
 equal→eq (pos a) (pos b) e = ap pos (eqb-true a b e)
 equal→eq (pos a) (negsuc b) e = absurd (true≢false (sym e))
 equal→eq (negsuc a) (pos b) e = absurd (true≢false (sym e))
 equal→eq (negsuc a) (negsuc b) e = ap negsuc (eqb-true a b e)
 
-equal-self : (x : ℤ) → equal x x ≡ true
+pub equal-self : (x : ℤ) → equal x x ≡ true
 equal-self (pos a) = eq-eqb a a refl
 equal-self (negsuc a) = eq-eqb a a refl
-
-pub eq→equal : {x y : ℤ} → x ≡ y → equal x y ≡ true
-eq→equal {y = y} e = rw e (equal-self y)
 
 -- two numbers that fit are equal where their bits are
 pub same-bits : (w : Width) (x y : ℤ) → SFits w x → SFits w y → eqb (ofZ w x) (ofZ w y) ≡ equal x y
@@ -71,6 +49,46 @@ same-bits w x y f g = go (ℤ-discrete x y)
     go : Dec (x ≡ y) → eqb (ofZ w x) (ofZ w y) ≡ equal x y
     go (yes e) = rw e (eq-eqb (ofZ w y) (ofZ w y) refl ∙ sym (equal-self y))
     go (no e) = ne-eqb (ofZ w x) (ofZ w y) (λ q. e (sym (toZ-ofZ f) ∙ ap (toZ w) q ∙ toZ-ofZ g)) ∙ sym (not-yes (equal x y) (λ q. e (equal→eq x y q)))
+
+-- ---- two lists, place by place
+
+module _ {A : Type 0} (test : A → A → Bool) where
+  pub pairs-at : (absent : A) (xs ys : List A) → pairwise test xs ys ≡ true → (k : ℕ) → k < length xs → test (getD xs k absent) (getD ys k absent) ≡ true
+  pairs-at absent [] ys e k h = absurd (omega arith)
+  pairs-at absent (x ∷ xs) [] e k h = absurd (true≢false (sym e))
+  pairs-at absent (x ∷ xs) (y ∷ ys) e zero h = both-first (test x y) _ e
+  pairs-at absent (x ∷ xs) (y ∷ ys) e (suc k) h = pairs-at absent xs ys (both-second (test x y) _ e) k (omega arith)
+
+  pub pairs-counts : (xs ys : List A) → pairwise test xs ys ≡ true → length xs ≡ length ys
+  pairs-counts [] [] e = refl
+  pairs-counts [] (y ∷ ys) e = absurd (true≢false (sym e))
+  pairs-counts (x ∷ xs) [] e = absurd (true≢false (sym e))
+  pairs-counts (x ∷ xs) (y ∷ ys) e = ap suc (pairs-counts xs ys (both-second (test x y) _ e))
+
+  pub pairs-all : (absent : A) (xs ys : List A) → length xs ≡ length ys →
+      ((k : ℕ) → k < length xs → test (getD xs k absent) (getD ys k absent) ≡ true) → pairwise test xs ys ≡ true
+  pairs-all absent [] [] n h = refl
+  pairs-all absent [] (y ∷ ys) n h = absurd (omega arith)
+  pairs-all absent (x ∷ xs) [] n h = absurd (omega arith)
+  pairs-all absent (x ∷ xs) (y ∷ ys) n h = both (h zero (omega arith)) (pairs-all absent xs ys (omega arith) (λ k b. h (suc k) (omega arith)))
+
+  pub pairs-unlike : (xs ys : List A) → (length xs ≡ length ys → ⊥) → pairwise test xs ys ≡ false
+  pairs-unlike xs ys h = not-yes (pairwise test xs ys) (λ e. h (pairs-counts xs ys e))
+
+  pub pairs-fail : (absent : A) (xs ys : List A) (k : ℕ) → k < length xs → test (getD xs k absent) (getD ys k absent) ≡ false → pairwise test xs ys ≡ false
+  pairs-fail absent xs ys k h fails = not-yes (pairwise test xs ys) (λ e. true≢false (sym (pairs-at absent xs ys e k h) ∙ fails))
+
+  -- by a test that only equals pass, the lists are equal
+  pub pairs-equal : ((x y : A) → test x y ≡ true → x ≡ y) → (xs ys : List A) → pairwise test xs ys ≡ true → xs ≡ ys
+  pairs-equal only [] [] e = refl
+  pairs-equal only [] (y ∷ ys) e = absurd (true≢false (sym e))
+  pairs-equal only (x ∷ xs) [] e = absurd (true≢false (sym e))
+  pairs-equal only (x ∷ xs) (y ∷ ys) e =
+      ap₂ (λ v vs. v ∷ vs) (only x y (both-first (test x y) _ e)) (pairs-equal only xs ys (both-second (test x y) _ e))
+
+  pub pairs-itself : ((x : A) → test x x ≡ true) → (xs : List A) → pairwise test xs xs ≡ true
+  pairs-itself self [] = refl
+  pairs-itself self (x ∷ xs) = both (self x) (pairs-itself self xs)
 
 -- ---- the first that passes
 

@@ -8,7 +8,7 @@ use native.Mathlib.Numerals.{add-one}
 use native.Mathlib.Omega.{arith}
 use lib.ListN.{length, take, getD, set, length-map}
 use lib.Seq.{length-take-le, getD-take, take-suc-set, getD-set-same, getD-set-other}
-use Rattle.scans.specs.Scan.{Scan, at}
+use Rattle.scans.specs.Scan.{Scan, grade, at}
 use Rattle.knot.specs.Machine.{scan, Graded, knotIn, scansIn}
 use Rattle.knot.specs.declared.held.Knot.{Knot}
 
@@ -29,6 +29,10 @@ map-at f (x ∷ l) (suc i) d h = map-at f l i d (omega arith)
 -- the list of a knot has grade + 1 coefficients
 pub list-length : (k : Knot) → Graded k → length (take (k .grade + 1) (k .coefficients)) ≡ k .grade + 1
 list-length k g = length-take-le (k .grade + 1) (k .coefficients) (omega (arith, g .room, g .grade))
+
+-- so the grade of its scan is its own
+pub grade-is : (k : Knot) → Graded k → grade (scan k) ≡ k .grade
+grade-is k g = omega (arith, list-length k g)
 
 -- ---- the scans of the first n knots of an array
 

@@ -4,7 +4,7 @@ ghost use Prim.Native.Nat.{_+_, _-_, _≤_};
 ghost use lib.ListN.{length, take};
 ghost use Rattle.rounding.specs.Limits.{gapMax, gradeMax};
 ghost use Rattle.rounding.specs.Size.{Listed};
-ghost use Rattle.scans.specs.Scan.{leftList, moisture as Scan·moisture, rightList, scanOf};
+ghost use Rattle.scans.specs.Scan.{leftList, rightList, scanOf};
 ghost use Rattle.scans.specs.SizeRule.{firstTooLarge, products};
 ghost use Rattle.knot.specs.Machine.{scan, Graded, Holds, spotIn};
 use crate::limits::COEFFICIENTS_MAX;
@@ -63,15 +63,6 @@ impl Knot {
     {
         let c = self.coefficients;
         graded_reason(k, self.grade, c, h)
-    }
-
-    // C_0, the moisture at the knot.
-    pub fn moisture(self) -> i32
-        requires { ⌜ Graded self ⌝ }
-        ensures { λ r. ⌜ r ≡ Scan·moisture (scan self) ⌝ }
-    {
-        let c = self.coefficients;
-        c[0]
     }
 }
 

@@ -1,7 +1,9 @@
 -- The contract of each call of a sequence is `Does` of that call: what its function requires is that the reel is held, and what it ensures is
--- the promise. So are those of the sum and of the questions for a reason what is promised of them. A contract that says less is refused here.
+-- the promise. So are those of same, of the sum and of the questions for a reason what is promised of them. A contract that says less is
+-- refused here.
 use contract.Lifetimes.{Lfts}
 use denote.Ref.{RefT, now}
+use mathlib.Core.Bool.{Bool}
 use mathlib.Core.List.{List, []}
 use mathlib.Core.Path.{_≡_}
 use Prim.Native.Nat.{ℕ}
@@ -11,6 +13,7 @@ use Rattle.block.specs.Reading.{editionOf}
 use Rattle.knot.specs.Machine.{spotIn}
 use Rattle.knot.specs.declared.reason.Reason.{Reason}
 use Rattle.calls.specs.Calls.{accepted, clear, append, correct, read, write, value, trend, total}
+use Rattle.calls.specs.Same.{same}
 use Rattle.calls.specs.Reason.{reasonFor, sumReason}
 use Rattle.reel.specs.Machine.{scans, Held, replyOf, Does, Combines}
 use Rattle.reel.specs.declared.held.Reel.{Reel}
@@ -24,6 +27,7 @@ use Rattle.reel.proofs.held.Reel.write.Reads as write-reads
 use Rattle.reel.proofs.held.Reel.value.Reads as value-reads
 use Rattle.reel.proofs.held.Reel.trend.Reads as trend-reads
 use Rattle.reel.proofs.held.Reel.total.Reads as total-reads
+use Rattle.reel.proofs.held.Reel.same.Reads as same-reads
 use Rattle.reel.proofs.held.Reel.combine.Reads as combine-reads
 use Rattle.reel.proofs.held.Reel.append_reason.Reads as append-reason-reads
 use Rattle.reel.proofs.held.Reel.correct_reason.Reads as correct-reason-reads
@@ -76,7 +80,13 @@ module _ (given : Reel) (handed : Handed) (held : Held given) where
       Does (total i j) given (handed .answer) (handed .reel) []
   total-does i j contract = contract held
 
--- and that of the sum, which is no call of a sequence, is `Combines`
+-- and that of same, which is no call of a sequence, is that its yes or no is the model's
+pub same-says : (given other : Reel) (says : Bool) → Held given → Held other →
+    (same-reads.Pre tt (given, (other, tt)) → same-reads.Post tt (given, (other, tt)) says (given, (other, tt))) →
+    says ≡ same (scans given) (scans other)
+same-says given other says held held-other contract = contract (held, held-other)
+
+-- and that of the sum, which is none either, is `Combines`
 pub combine-combines : (α β : ℤ) (given other : Reel) (handed : Handed) → Held given → Held other →
     (combine-reads.Pre tt (given, (α, (β, (other, tt)))) →
     combine-reads.Post tt (given, (α, (β, (other, tt)))) handed (given, (α, (β, (other, tt))))) →

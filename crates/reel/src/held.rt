@@ -223,7 +223,7 @@ impl Reel {
         }
     }
 
-    // Whether two reels agree in their knot counts, positions and every C_0.
+    // Whether two reels agree in their knot counts, positions, grades and all coefficients: the same curve data.
     pub fn same(self, other: Reel) -> bool
         requires { ⌜ (Held self) × (Held other) ⌝ }
         ensures { λ b. ⌜ b ≡ Same·same (scans self) (scans other) ⌝ }

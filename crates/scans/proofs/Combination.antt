@@ -10,7 +10,7 @@ use native.Mathlib.Omega.{arith}
 use lib.Dec.{eqb}
 use lib.IntN.{ℤ, _+ℤ_, _*ℤ_}
 use lib.ListN.{length, getElem?}
-use Rattle.integer.proofs.Tests.{both-first, both-second, each-at}
+use Rattle.integer.proofs.Tests.{both-first, both-second, pairs-counts, pairs-at}
 use Rattle.hermite.specs.Polynomial.{_⊕_, _⊙_}
 use Rattle.rounding.specs.Piece.{m, n, positionUnit}
 use Rattle.rounding.specs.Size.{Listed}
@@ -18,7 +18,7 @@ use Rattle.rounding.specs.Value.{value}
 use Rattle.rounding.specs.Water.{total}
 use Rattle.rounding.specs.Combination.{CombinedDistance}
 use Rattle.rounding.proofs.Combination.{combined-length, combinedPiece, coefficients-combine, total-combines, value-combines}
-use Rattle.scans.specs.Scan.{Scan, grade, gap, at, before}
+use Rattle.scans.specs.Scan.{Scan, scanOf, grade, gap, at, before}
 use Rattle.scans.specs.SizeRule.{appendProducts, turnProducts, firstTooLarge}
 use Rattle.scans.specs.Standing.{Standing}
 use Rattle.scans.specs.Pieces.{pieceOf, mark, InReel, firstPast, pieceAt, valuePlace}
@@ -99,10 +99,10 @@ module _ (A B : List Scan) (x : ℕ) where
 
 module _ (A B : List Scan) (alike : allAligned A B ≡ true) where
   pub counts : length A ≡ length B
-  counts = eqb-true _ _ (both-first (eqb (length A) (length B)) _ alike)
+  counts = pairs-counts aligned A B alike
 
   scans-aligned : (k : ℕ) → k < length A → aligned (at A k) (at B k) ≡ true
-  scans-aligned = each-at (length A) _ (both-second (eqb (length A) (length B)) _ alike)
+  scans-aligned = pairs-at aligned (scanOf 0 []) A B alike
 
   pub positions : (k : ℕ) → k < length A → at B k .position ≡ at A k .position
   positions k h = sym (eqb-true _ _ (both-first (eqb (at A k .position) (at B k .position)) _ (scans-aligned k h)))

@@ -3,8 +3,9 @@ use mathlib.Core.Bool.{Bool, _&&_}
 use mathlib.Core.List.{List, [], _∷_}
 use lib.Dec.{eqb}
 use lib.IntN.{ℤ}
+use Rattle.integer.specs.Tests.{pairwise}
 use Rattle.hermite.specs.Polynomial.{_⊕_, _⊙_}
-use Rattle.scans.specs.Scan.{Scan, scanOf, grade, pairwise}
+use Rattle.scans.specs.Scan.{Scan, scanOf, grade}
 
 -- the position and the grade of two scans agree
 abbrev pub aligned : Scan → Scan → Bool

@@ -1,13 +1,9 @@
--- Document 01, "The reel": a knot of the list, in the model called a scan, and its neighbours; and two lists, scan by
--- scan.
-use mathlib.Core.Bool.{Bool, _&&_}
+-- Document 01, "The reel": a knot of the list, in the model called a scan, and its neighbours.
 use mathlib.Core.List.{List, []}
 use mathlib.Core.Option.{Option, none}
 use Prim.Native.Nat.{ℕ, zero, suc, _-_}
-use lib.Dec.{eqb}
-use lib.IntN.{ℤ, pos}
+use lib.IntN.{ℤ}
 use lib.ListN.{length, getD, getElem?}
-use Rattle.integer.specs.Tests.{each}
 
 -- its position in steps and its coefficients C_0 to C_m; its grade is the length of the list less one
 pub record Scan : Type 0 where
@@ -30,10 +26,6 @@ leftList s = s .coefficients
 abbrev pub rightList : Scan → List ℤ
 rightList s = s .coefficients
 
--- C_0, the moisture at the scan
-abbrev pub moisture : Scan → ℤ
-moisture s = getD (leftList s) 0 (pos 0)
-
 -- the gap from a scan to the position of the next, in steps
 abbrev pub gap : Scan → ℕ → ℕ
 gap s x = x - s .position
@@ -49,8 +41,3 @@ before scans (suc k) = getElem? scans k
 
 abbrev pub after : List Scan → ℕ → Option Scan
 after scans k = getElem? scans (suc k)
-
--- two lists of as many scans, and the two at each place pass a test
-abbrev pub pairwise : (Scan → Scan → Bool) → List Scan → List Scan → Bool
-pairwise test scans others =
-    eqb (length scans) (length others) && each (length scans) (λ k. test (at scans k) (at others k))

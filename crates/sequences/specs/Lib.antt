@@ -4,4 +4,5 @@ pub mod RoundTrips
 pub mod Operators
 pub mod Combination
 pub mod Reasons
+pub mod Same
 pub mod Sequences

@@ -176,13 +176,13 @@ def places(script):
 
 
 def same_reels(script):
-    """Same: counts, positions and every C_0; the reel has no part in it"""
+    """Same: counts, positions, grades and all coefficients; the reel has no part in it"""
     a, b, c = (7, (1, 5)), (9, (2,)), (12, (3, 0, 1))
     pairs = [
         ("yes", [a, b, c], [a, b, c]),
-        ("yes", [a, b, c], [(7, (1, -5)), b, c]),
-        ("yes", [a, b, c], [(7, (1,)), b, c]),
-        ("yes", [a, b, c], [a, (9, (2, 0, 0, 0, 0, 0, 0, 0)), (12, (3,))]),
+        ("no", [a, b, c], [(7, (1, -5)), b, c]),
+        ("no", [a, b, c], [(7, (1,)), b, c]),
+        ("no", [a, b, c], [a, (9, (2, 0, 0, 0, 0, 0, 0, 0)), (12, (3,))]),
         ("no", [a, b, c], [(7, (2, 5)), b, c]),
         ("no", [a, b, c], [a, (9, (-2,)), c]),
         ("no", [a, b, c], [a, b, (12, (4, 0, 1))]),
@@ -193,11 +193,11 @@ def same_reels(script):
         ("no", [a, b, c], [b, c]),
         ("no", [a, b, c], []),
         ("yes", [a, b], [a, b]),
-        ("yes", [a], [(7, (1,))]),
+        ("no", [a], [(7, (1,))]),
         ("no", [a], [b]),
         ("no", [a], []),
         ("yes", [], []),
-        ("yes", [(0, MOST)], [(0, (SIZE_MAX, 1))]),
+        ("no", [(0, MOST)], [(0, (SIZE_MAX, 1))]),
         ("no", [(0, MOST)], [(0, (-SIZE_MAX,))]),
         ("no", [(0, (-1,))], [(0, FLAT)]),
         ("yes", list(WORKED), list(WORKED)),
@@ -212,5 +212,5 @@ def same_reels(script):
         script.unreadable(line_for("same", bad, good), line_for("same", good, bad), line_for("same", bad, bad))
     full = [(4 * k, (k - 64, 1)) for k in range(KNOTS_MAX)]
     last = (full[-1][0], (0, 1))
-    for answer, others in (("yes", [(p, c[:1]) for p, c in full]), ("no", full[:-1]), ("no", full[:-1] + [last])):
-        script.call(line_for("same", block_of(full), block_of(others)), answer)
+    for others in ([(p, c[:1]) for p, c in full], full[:-1], full[:-1] + [last]):
+        script.call(line_for("same", block_of(full), block_of(others)), "no")

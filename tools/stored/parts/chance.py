@@ -100,7 +100,7 @@ def write_by_chance(chance, reel):
 
 
 def same_by_chance(chance, reel):
-    """Two reels that differ in one thing at most, or in a block that is refused."""
+    """Two reels of which the second may lack all but C_0 at some knots, and have one thing more changed, or a fault."""
     knots = knots_by_chance(chance, 3)
     others = [(position, c if chance.randrange(4) else c[:1]) for position, c in knots]
     return line_for("same", block_of(knots), block_of(others) if chance.randrange(3) else spoiled(chance, others))

@@ -1,17 +1,9 @@
 -- `comparison::alignment::aligned` meets its contract.
 use borrow.Author.Tests.{ne-eqb, eq-eqb}
-use mathlib.Core.Path.{_≡_, refl}
-use Prim.Native.Nat.{_-_}
-use native.Mathlib.Omega.{arith}
-use Rattle.scans.specs.Scan.{grade}
-use Rattle.knot.specs.Machine.{scan, Graded}
-use Rattle.knot.specs.declared.held.Knot.{Knot}
-use Rattle.knot.proofs.Lists.{list-length}
+use mathlib.Core.Path.{refl}
+use Rattle.knot.proofs.Lists.{grade-is}
 use Rattle.comparison.proofs.alignment.aligned.Statement.{statement}
 use Rattle.comparison.proofs.alignment.aligned.Tie as tie
-
-grade-is : (k : Knot) → Graded k → grade (scan k) ≡ k .grade
-grade-is k g = omega (arith, list-length k g)
 
 returns : tie.Need-returns
 returns c = rw (ne-eqb _ _ (c .if1 .taken)) refl

@@ -2,19 +2,16 @@
 use borrow.Author.Needs.{needs}
 use borrow.Author.Tests.{not-true, not-false}
 use mathlib.Core.Bool.{true}
-use mathlib.Core.Path.{_≡_, refl, sym, _∙_}
-use Prim.Native.Nat.{_-_, _≤_}
-use native.Mathlib.Numerals.{add-one}
+use mathlib.Core.Path.{_≡_, sym, _∙_}
+use Prim.Native.Nat.{ℕ, _-_, _≤_, _<_}
 use native.Mathlib.Omega.{arith}
-use Rattle.integer.specs.Tests.{each}
-use Rattle.integer.proofs.Tests.{both}
 use Rattle.calls.specs.Same.{agree, same}
-use Rattle.comparison.proofs.Pairs.{pair, unlike-counts, unlike-pair, all-pairs}
+use Rattle.comparison.proofs.Pairs.{one-more, pair, unlike-counts, unlike-pair, all-pairs}
 use Rattle.comparison.proofs.knots.same.Statement.{statement}
 use Rattle.comparison.proofs.knots.same.Tie as tie
 
 abbrev Inv-loop : tie.InvT-loop
-Inv-loop count other-count knots others k₀ k = (k ≤ count) × (each k (pair agree knots others) ≡ true)
+Inv-loop count other-count knots others k₀ k = (k ≤ count) × ((j : ℕ) → j < k → pair agree knots others j ≡ true)
 
 abbrev μ-loop : tie.MeasureT-loop
 μ-loop count other-count knots others k₀ k = count - k
@@ -24,7 +21,7 @@ unfolding same
 returns c = let b = c .before in sym (unlike-counts agree _ _ _ _ (b .pre .0) (b .pre .1) (c .if1 .taken))
 
 loop-holds : tie.Need-loop-holds Inv-loop μ-loop
-loop-holds c = (omega arith, refl)
+loop-holds c = (omega arith, λ j h. absurd (omega arith))
 
 mul-mine : tie.Need-mul-mine Inv-loop μ-loop
 mul-mine c = search needs
@@ -63,7 +60,7 @@ loop-again : tie.Need-loop-again Inv-loop μ-loop
 loop-again c =
     let t = c .before in
     let l = t .before .before .before .before in
-    (omega arith, rw add-one (both (l .loop .inv .1) (sym (t .agree .ensures) ∙ not-false (t .agree .result) (c .if2 .left))))
+    (omega arith, one-more _ (l .loop .k) (l .loop .inv .1) (sym (t .agree .ensures) ∙ not-false (t .agree .result) (c .if2 .left)))
 
 returns-3 : tie.Need-returns-3 Inv-loop μ-loop
 unfolding same
