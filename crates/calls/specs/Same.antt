@@ -39,9 +39,13 @@ pub record SameLaws (A B : List Scan) : Type 0 where
   -- "A yes under the new meaning is a yes under the old"
   pub yesOld : same A B ≡ true → sameMoistures A B ≡ true
 
--- "Two reels that agreed at each scan but not in slope were filed as one": of one scan each, with C_0 = c in both and
--- the slopes d and e, the old meaning says yes; now they are told apart. By C_0 the old meaning told them apart too
+-- one scan at x, with C_0 = c and the slope d
+abbrev pub sloping : ℕ → ℤ → ℤ → List Scan
+sloping x c d = scanOf x (c ∷ d ∷ []) ∷ []
+
+-- "Two reels that agreed at each scan but not in slope were filed as one": with the slopes d and e the old meaning says
+-- yes; now they are told apart. By C_0 the old meaning told two reels apart too
 pub record ToldApart (x : ℕ) (b c d e : ℤ) : Type 0 where
-  pub oldYes : sameMoistures (scanOf x (c ∷ d ∷ []) ∷ []) (scanOf x (c ∷ e ∷ []) ∷ []) ≡ true
-  pub newNo : (d ≡ e → ⊥) → same (scanOf x (c ∷ d ∷ []) ∷ []) (scanOf x (c ∷ e ∷ []) ∷ []) ≡ false
-  pub oldNo : (b ≡ c → ⊥) → sameMoistures (scanOf x (b ∷ d ∷ []) ∷ []) (scanOf x (c ∷ d ∷ []) ∷ []) ≡ false
+  pub oldYes : sameMoistures (sloping x c d) (sloping x c e) ≡ true
+  pub newNo : (d ≡ e → ⊥) → same (sloping x c d) (sloping x c e) ≡ false
+  pub oldNo : (b ≡ c → ⊥) → sameMoistures (sloping x b d) (sloping x c d) ≡ false

@@ -20,8 +20,8 @@ use Rattle.knot.specs.declared.held.Knot.{Knot}
 use Rattle.knot.proofs.Lists.{length-scans, at-scans}
 
 -- what passes below k, and at k, passes below k + 1
-pub one-more : (f : ℕ → Bool) (k : ℕ) → ((j : ℕ) → j < k → f j ≡ true) → f k ≡ true → (j : ℕ) → j < k + 1 → f j ≡ true
-one-more f k below here j h = go (ℕ-discrete j k)
+pub next-passes : (f : ℕ → Bool) (k : ℕ) → ((j : ℕ) → j < k → f j ≡ true) → f k ≡ true → (j : ℕ) → j < k + 1 → f j ≡ true
+next-passes f k below here j h = go (ℕ-discrete j k)
   where
     go : Dec (j ≡ k) → f j ≡ true
     go (yes e) = rw e here

@@ -31,8 +31,8 @@ pub list-length : (k : Knot) → Graded k → length (take (k .grade + 1) (k .co
 list-length k g = length-take-le (k .grade + 1) (k .coefficients) (omega (arith, g .room, g .grade))
 
 -- so the grade of its scan is its own
-pub grade-is : (k : Knot) → Graded k → grade (scan k) ≡ k .grade
-grade-is k g = omega (arith, list-length k g)
+pub scan-grade : (k : Knot) → Graded k → grade (scan k) ≡ k .grade
+scan-grade k g = omega (arith, list-length k g)
 
 -- ---- the scans of the first n knots of an array
 

@@ -11,7 +11,7 @@ use lib.Seq.{sets, sets-eq, length-sets, drop-cons, getD-take}
 use Rattle.scans.specs.Scan.{at, grade}
 use Rattle.knot.specs.Machine.{scan, Graded, Filled, knotIn, scansIn}
 use Rattle.knot.specs.declared.held.Knot.{Knot}
-use Rattle.knot.proofs.Lists.{length-scans, at-scans, list-length}
+use Rattle.knot.proofs.Lists.{length-scans, at-scans, list-length, scan-grade}
 use Rattle.block.specs.Fields.{headerWord, knotWord, coefficientWord, endWord}
 use Rattle.block.specs.Bytes.{bytesOf, bytes}
 use Rattle.block.proofs.Bytes.{words-stored}
@@ -111,8 +111,7 @@ module _ (before : List ℕ) (i : ℕ) (k : Knot) where
     pub knot-stored : k .grade < j → (l : List ℕ) (w : ℕ) → w ≡ knotWord (k .position) (k .grade) → before ≡ sets l (4 * i) (bytesOf w) →
         out ≡ sets l (4 * i) (bytes (scanWords (scan k)))
     knot-stored h l w e first =
-        let m : k .grade ≡ grade (scan k) = omega (arith, list-length k g) in
-        let word : w ≡ knotWord (k .position) (grade (scan k)) = e ∙ ap (knotWord (k .position)) m in
+        let word : w ≡ knotWord (k .position) (grade (scan k)) = e ∙ ap (knotWord (k .position)) (sym (scan-grade k g)) in
         let coefficients = map coefficientWord (scan k .coefficients) in
         all-stored h ∙ ap (λ s. sets s (4 * (i + 1)) (bytes coefficients)) (rw word at first) ∙
         sym (words-stored l i (knotWord (k .position) (grade (scan k)) ∷ []) coefficients)

@@ -24,7 +24,7 @@ use Rattle.scans.proofs.Combination.{grades, count-is, scan-is, placed-is}
 use Rattle.knot.specs.Machine.{scan, Graded, Holds, knotIn, scansIn, spotIn, refusal}
 use Rattle.knot.specs.declared.held.Knot.{Knot}
 use Rattle.knot.specs.declared.reason.Reason.the-variants as Reasons
-use Rattle.knot.proofs.Lists.{grade-is, length-scans, at-scans, scans-stored, graded-stored}
+use Rattle.knot.proofs.Lists.{scan-grade, length-scans, at-scans, scans-stored, graded-stored}
 use Rattle.following.specs.Machine.{neighbour}
 use Rattle.following.specs.declared.causes.Neighbour.{Neighbour}
 use Rattle.combination.specs.Machine.{limitedScan, Summable, Sums}
@@ -99,7 +99,7 @@ module _ (α β : ℤ) (given others : List Knot) (count : ℕ) where
           let g : grade (scan (knotIn others k)) ≡ grade (scan (knotIn given k)) =
           ap grade (sym (at-scans others count room-others k h)) ∙ grades A B (can .aligned) k (omega (arith, length-A)) ∙
           ap grade (at-scans given count room-given k h) in
-          sym (grade-is (knotIn given k) (can .filled .graded k h)) ∙ sym g ∙ grade-is (knotIn others k) (can .otherFilled .graded k h)
+          sym (scan-grade (knotIn given k) (can .filled .graded k h)) ∙ sym g ∙ scan-grade (knotIn others k) (can .otherFilled .graded k h)
 
     -- ---- the first knot has none before it
 

@@ -9,14 +9,14 @@ use Rattle.scans.specs.Scan.{grade}
 use Rattle.scans.specs.Combination.{aligned}
 use Rattle.knot.specs.Machine.{Graded, scan}
 use Rattle.knot.specs.declared.held.Knot.{Knot}
-use Rattle.knot.proofs.Lists.{grade-is}
+use Rattle.knot.proofs.Lists.{scan-grade}
 use Rattle.comparison.proofs.knots.agree.Statement.{statement}
 use Rattle.comparison.proofs.knots.agree.Tie as tie
 
 -- knots that are aligned have one grade
 same-grade : (a b : Knot) → Graded a → Graded b → aligned (scan a) (scan b) ≡ true → b .grade ≡ a .grade
 same-grade a b g g' e =
-    sym (grade-is b g') ∙ sym (eqb-true (grade (scan a)) (grade (scan b)) (both-second (eqb (a .position) (b .position)) _ e)) ∙ grade-is a g
+    sym (scan-grade b g') ∙ sym (eqb-true (grade (scan a)) (grade (scan b)) (both-second (eqb (a .position) (b .position)) _ e)) ∙ scan-grade a g
 
 aligned-requires : tie.Need-aligned-requires
 aligned-requires c κs = search needs

@@ -5,7 +5,7 @@ use mathlib.Core.Bool.{true}
 use mathlib.Core.Path.{_≡_, sym, _∙_}
 use Prim.Native.Nat.{ℕ, _+_, _-_, _≤_, _<_}
 use native.Mathlib.Omega.{arith}
-use Rattle.comparison.proofs.Pairs.{one-more, alike, alike-bits, unlike-coefficient, all-alike}
+use Rattle.comparison.proofs.Pairs.{next-passes, alike, alike-bits, unlike-coefficient, all-alike}
 use Rattle.comparison.proofs.knots.lists_agree.Statement.{statement}
 use Rattle.comparison.proofs.knots.lists_agree.Tie as tie
 
@@ -51,7 +51,7 @@ loop-again c =
     let l = n .before .before .before in
     let b = l .before in
     let bits = alike-bits (b .args .t2) (b .args .t3) (l .loop .j) (record { sfits = n .before .if12 .given }) (record { sfits = n .if13 .given }) in
-    (omega arith, one-more _ (l .loop .j) (l .loop .inv .1) (sym bits ∙ eq-eqb _ _ (c .if1 .left)))
+    (omega arith, next-passes _ (l .loop .j) (l .loop .inv .1) (sym bits ∙ eq-eqb _ _ (c .if1 .left)))
 
 returns-2 : tie.Need-returns-2 Inv-loop μ-loop
 returns-2 c =

@@ -6,7 +6,7 @@ use mathlib.Core.Path.{_≡_, sym, _∙_}
 use Prim.Native.Nat.{ℕ, _-_, _≤_, _<_}
 use native.Mathlib.Omega.{arith}
 use Rattle.calls.specs.Same.{agree, same}
-use Rattle.comparison.proofs.Pairs.{one-more, pair, unlike-counts, unlike-pair, all-pairs}
+use Rattle.comparison.proofs.Pairs.{next-passes, pair, unlike-counts, unlike-pair, all-pairs}
 use Rattle.comparison.proofs.knots.same.Statement.{statement}
 use Rattle.comparison.proofs.knots.same.Tie as tie
 
@@ -60,7 +60,7 @@ loop-again : tie.Need-loop-again Inv-loop μ-loop
 loop-again c =
     let t = c .before in
     let l = t .before .before .before .before in
-    (omega arith, one-more _ (l .loop .k) (l .loop .inv .1) (sym (t .agree .ensures) ∙ not-false (t .agree .result) (c .if2 .left)))
+    (omega arith, next-passes _ (l .loop .k) (l .loop .inv .1) (sym (t .agree .ensures) ∙ not-false (t .agree .result) (c .if2 .left)))
 
 returns-3 : tie.Need-returns-3 Inv-loop μ-loop
 unfolding same
