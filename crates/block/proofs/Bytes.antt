@@ -6,7 +6,7 @@ use native.Mathlib.Nat.{div-add-mod'}
 use native.Mathlib.Omega.{arith}
 use lib.ListN.{length, get_or}
 use lib.Seq.{sets}
-use Rattle.integer.proofs.Stores.{sets-sets}
+use Rattle.integer.proofs.Stores.{sets_sets}
 use Rattle.block.specs.Bytes.{joined, bytes_of, words, bytes, Below}
 
 pub below_both : (b : ℕ) (us vs : List ℕ) → Below b us → Below b vs → Below b (us ++ vs)
@@ -67,8 +67,8 @@ length-words (a ∷ b ∷ c ∷ []) = refl
 length-words (a ∷ b ∷ c ∷ d ∷ bs) = omega (arith, length-words bs)
 
 -- what stands four places on
-past-four : (a b c d : ℕ) (bs : List ℕ) (m n : ℕ) → m ≡ suc (suc (suc (suc n))) → get_or (a ∷ b ∷ c ∷ d ∷ bs) m 0 ≡ get_or bs n 0
-past-four a b c d bs m n e = rw e refl
+past_four : (a b c d : ℕ) (bs : List ℕ) (m n : ℕ) → m ≡ suc (suc (suc (suc n))) → get_or (a ∷ b ∷ c ∷ d ∷ bs) m 0 ≡ get_or bs n 0
+past_four a b c d bs m n e = rw e refl
 
 pub word_at : (bs : List ℕ) (k : ℕ) → k < length bs / 4 → get_or (words bs) k 0 ≡ joined (get_or bs (4 * k) 0) (get_or bs (4 * k + 1) 0)
     (get_or bs (4 * k + 2) 0) (get_or bs (4 * k + 3) 0)
@@ -78,7 +78,7 @@ word_at (a ∷ b ∷ []) k h = absurd (omega arith)
 word_at (a ∷ b ∷ c ∷ []) k h = absurd (omega arith)
 word_at (a ∷ b ∷ c ∷ d ∷ bs) zero h = refl
 word_at (a ∷ b ∷ c ∷ d ∷ bs) (suc k) h =
-    let past = past-four a b c d bs in
+    let past = past_four a b c d bs in
     rw (
       past (4 * suc k) (4 * k) (omega arith),
       past (4 * suc k + 1) (4 * k + 1) (omega arith),
@@ -88,7 +88,7 @@ word_at (a ∷ b ∷ c ∷ d ∷ bs) (suc k) h =
     (word_at bs k (omega arith))
 
 -- words stored behind one another
-pub words-stored : (l : List ℕ) (a : ℕ) (us vs : List ℕ) → sets l (4 * a) (bytes (us ++ vs)) ≡ sets (sets l (4 * a) (bytes us)) (4 * (a + length us)) (bytes vs)
-words-stored l a us vs =
+pub words_stored : (l : List ℕ) (a : ℕ) (us vs : List ℕ) → sets l (4 * a) (bytes (us ++ vs)) ≡ sets (sets l (4 * a) (bytes us)) (4 * (a + length us)) (bytes vs)
+words_stored l a us vs =
     let there : 4 * a + length (bytes us) ≡ 4 * (a + length us) = omega (arith, length-bytes us) in
-    ap (sets l (4 * a)) (bytes-append us vs) ∙ sym (sets-sets l (4 * a) (bytes us) (bytes vs)) ∙ ap (λ n. sets (sets l (4 * a) (bytes us)) n (bytes vs)) there
+    ap (sets l (4 * a)) (bytes-append us vs) ∙ sym (sets_sets l (4 * a) (bytes us) (bytes vs)) ∙ ap (λ n. sets (sets l (4 * a) (bytes us)) n (bytes vs)) there

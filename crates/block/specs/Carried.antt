@@ -5,28 +5,28 @@ use Rattle.std.proofs.Math.Option.{none}
 use Rattle.scans.specs.Scan.{Scan}
 use Rattle.scans.specs.Standing.{Standing}
 use Rattle.scans.specs.RefusalTable.{first}
-use Rattle.block.specs.Fields.{headerWord, end_word, readingWord}
+use Rattle.block.specs.Fields.{header_word, end_word, reading_word}
 use Rattle.block.specs.Bytes.{bytes, Below}
-use Rattle.block.specs.Block.{readingsEdition, scanWords}
-use Rattle.block.specs.Reading.{blockCauses, editionOf, list_of}
-use Rattle.block.specs.View.{readingsOf}
+use Rattle.block.specs.Block.{readings_edition, scan_words}
+use Rattle.block.specs.Reading.{block_causes, edition_of, list_of}
+use Rattle.block.specs.View.{readings_of}
 
 -- each knot's words, and after its coefficients its readings; those of knot k are `readings k`
-abbrev pub carriedKnots : List Scan → (ℕ → List ℕ) → List ℕ
-carriedKnots [] readings = []
-carriedKnots (s ∷ scans) readings =
-    scanWords s ++ map readingWord (readings 0) ++ carriedKnots scans (λ k. readings (suc k))
+abbrev pub carried_knots : List Scan → (ℕ → List ℕ) → List ℕ
+carried_knots [] readings = []
+carried_knots (s ∷ scans) readings =
+    scan_words s ++ map reading_word (readings 0) ++ carried_knots scans (λ k. readings (suc k))
 
 -- the header, of edition e, and the knots
-abbrev pub carriedOpen : ℕ → List Scan → (ℕ → List ℕ) → List ℕ
-carriedOpen e scans readings = headerWord (length scans) e ∷ carriedKnots scans readings
+abbrev pub carried_open : ℕ → List Scan → (ℕ → List ℕ) → List ℕ
+carried_open e scans readings = header_word (length scans) e ∷ carried_knots scans readings
 
 -- and the end word, which has the number of words before it
-abbrev pub carriedWords : ℕ → List Scan → (ℕ → List ℕ) → List ℕ
-carriedWords e scans readings = carriedOpen e scans readings ++ end_word (length (carriedOpen e scans readings)) ∷ []
+abbrev pub carried_words : ℕ → List Scan → (ℕ → List ℕ) → List ℕ
+carried_words e scans readings = carried_open e scans readings ++ end_word (length (carried_open e scans readings)) ∷ []
 
-unfoldable pub carriedBlock : List Scan → (ℕ → List ℕ) → List ℕ
-carriedBlock scans readings = bytes (carriedWords readingsEdition scans readings)
+unfoldable pub carried_block : List Scan → (ℕ → List ℕ) → List ℕ
+carried_block scans readings = bytes (carried_words readings_edition scans readings)
 
 -- scans that stand, with "up to 32" readings of 16 bits beside each
 pub record Carriable (scans : List Scan) (readings : ℕ → List ℕ) : Type 0 where
@@ -38,11 +38,11 @@ pub record Carriable (scans : List Scan) (readings : ℕ → List ℕ) : Type 0 
 -- beside it; the list and the readings of every accepted block are such, and of edition 2 it is their block
 pub record CarriedLaws : Type 0 where
   pub accepted : (scans : List Scan) (readings : ℕ → List ℕ) → Carriable scans readings →
-      first (blockCauses (carriedBlock scans readings)) ≡ none
+      first (block_causes (carried_block scans readings)) ≡ none
   pub list : (scans : List Scan) (readings : ℕ → List ℕ) → Carriable scans readings →
-      list_of (carriedBlock scans readings) ≡ scans
+      list_of (carried_block scans readings) ≡ scans
   pub shown : (scans : List Scan) (readings : ℕ → List ℕ) → Carriable scans readings →
-      (k : ℕ) → k < length scans → readingsOf (carriedBlock scans readings) k ≡ readings k
-  pub such : (bs : List ℕ) → first (blockCauses bs) ≡ none → Carriable (list_of bs) (readingsOf bs)
-  pub only : (bs : List ℕ) → Below (2 ^ 8) bs → first (blockCauses bs) ≡ none → editionOf bs ≡ readingsEdition →
-      carriedBlock (list_of bs) (readingsOf bs) ≡ bs
+      (k : ℕ) → k < length scans → readings_of (carried_block scans readings) k ≡ readings k
+  pub such : (bs : List ℕ) → first (block_causes bs) ≡ none → Carriable (list_of bs) (readings_of bs)
+  pub only : (bs : List ℕ) → Below (2 ^ 8) bs → first (block_causes bs) ≡ none → edition_of bs ≡ readings_edition →
+      carried_block (list_of bs) (readings_of bs) ≡ bs

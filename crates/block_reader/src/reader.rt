@@ -1,11 +1,12 @@
 // Reading a block: a knot word, its coefficient words, its readings, the next knot; and the first fault ends it.
 ghost use Rattle.std.proofs.Math.Option.{none};
 ghost use Rattle.std.specs.Prelude.{◌≡◌, ◌≤◌, length};
-ghost use Rattle.rounding.specs.Limits.{knotsMax};
+ghost use Rattle.rounding.specs.Limits.{knots_max};
 ghost use Rattle.scans.specs.RefusalTable.{first};
 ghost use Rattle.block.specs.Bytes.{words};
-ghost use Rattle.block.specs.Block.{block as Block·block, plainEdition};
-ghost use Rattle.block.specs.Reading.{blockCauses, editionOf, list_of};
+ghost use Rattle.block.specs.Block;
+ghost use Rattle.block.specs.Block.{plain_edition};
+ghost use Rattle.block.specs.Reading.{block_causes, edition_of, list_of};
 ghost use Rattle.knot.specs.declared.reason.Reason.TheVariants as Reasons;
 ghost use Rattle.block_reader.specs.Machine.{Reads, ReadsKnots};
 
@@ -36,7 +37,7 @@ fn free() -> Knot {
 
 // No list: a fault before the first knot.
 fn stopped(refusal: u32) -> Contents
-    ensures { (result.refusal ≡ refusal) × (length result.knots ≡ knotsMax) × (result.count ≡ 0)
+    ensures { (result.refusal ≡ refusal) × (length result.knots ≡ knots_max) × (result.count ≡ 0)
         × (result.reason ≡ Reasons.Nothing) }
 {
     let none = free();
@@ -50,7 +51,7 @@ fn stopped(refusal: u32) -> Contents
 
 // The knots of a block of this edition, from its second word on.
 fn read_knots(block: &[u8], edition: u32, count: usize) -> Contents
-    requires { count ≤ knotsMax }
+    requires { count ≤ knots_max }
     ensures { ReadsKnots result edition count (words block.now) }
 {
     let none = free();
@@ -116,9 +117,9 @@ fn read_knots(block: &[u8], edition: u32, count: usize) -> Contents
 // Every list of bytes: the number of its first fault in word order, or its list. An accepted block of edition 1 is the
 // block of its list.
 pub fn read(block: &[u8]) -> Contents
-    ensures reads { Reads result (first (blockCauses block.now)) (list_of block.now) }
-    ensures block_value { first (blockCauses block.now) ≡ none → editionOf block.now ≡ plainEdition →
-        Block·block (list_of block.now) ≡ block.now }
+    ensures reads { Reads result (first (block_causes block.now)) (list_of block.now) }
+    ensures block_value { first (block_causes block.now) ≡ none → edition_of block.now ≡ plain_edition →
+        Block.block (list_of block.now) ≡ block.now }
 {
     let length = length_fault(block.len()).number();
     if length != 0 {

@@ -1,9 +1,9 @@
 // Writing a block: its words one after the other.
-ghost use Rattle.std.specs.Prelude.{◌≡◌, ◌+◌, ◌*◌, ◌≤◌, length as ListN·length};
+ghost use Rattle.std.specs.Prelude.{◌≡◌, ◌+◌, ◌*◌, ◌≤◌, length as list_length};
 ghost use Rattle.std.proofs.lemmas.List.Edits.{sets};
-ghost use Rattle.knot.specs.Machine.{Filled, Graded, scan, scansIn};
+ghost use Rattle.knot.specs.Machine.{Filled, Graded, scan, scans_in};
 ghost use Rattle.block.specs.Bytes.{bytes};
-ghost use Rattle.block.specs.Block.{block, scanWords, written};
+ghost use Rattle.block.specs.Block.{block, scan_words, written};
 
 use block::PLAIN_EDITION;
 use knot::{KNOTS_MAX, Knot};
@@ -12,7 +12,7 @@ use word::{coefficient_word, end_word, header_word, knot_word, store};
 // The number of bytes of the block of the first `count` knots.
 pub fn length(knots: [Knot; KNOTS_MAX], count: usize) -> usize
     requires { Filled knots count }
-    ensures { result ≡ ListN·length (block (scansIn count knots)) }
+    ensures { result ≡ list_length (block (scans_in count knots)) }
 {
     let mut words = 2;
     let mut k = 0;
@@ -26,9 +26,9 @@ pub fn length(knots: [Knot; KNOTS_MAX], count: usize) -> usize
 
 // Puts a knot's words in the places from i on, and gives the place after them.
 fn write_knot(knot: Knot, out: &mut [u8], i: usize) -> usize
-    requires { (Graded knot) × (4 * (i + (knot.grade + 2)) ≤ ListN·length out.old) }
+    requires { (Graded knot) × (4 * (i + (knot.grade + 2)) ≤ list_length out.old) }
     ensures { (result ≡ i + (knot.grade + 2))
-        × (out.new ≡ sets out.old (4 * i) (bytes (scanWords (scan knot)))) }
+        × (out.new ≡ sets out.old (4 * i) (bytes (scan_words (scan knot)))) }
 {
     let c = knot.coefficients;
     let m = knot.grade as usize;
@@ -43,9 +43,9 @@ fn write_knot(knot: Knot, out: &mut [u8], i: usize) -> usize
 
 // Puts that block in the first bytes, and gives their number.
 pub fn write(knots: [Knot; KNOTS_MAX], count: usize, out: &mut [u8]) -> usize
-    requires { (Filled knots count) × (ListN·length (block (scansIn count knots)) ≤ ListN·length out.old) }
-    ensures { (result ≡ ListN·length (block (scansIn count knots)))
-        × (out.new ≡ written (scansIn count knots) out.old) }
+    requires { (Filled knots count) × (list_length (block (scans_in count knots)) ≤ list_length out.old) }
+    ensures { (result ≡ list_length (block (scans_in count knots)))
+        × (out.new ≡ written (scans_in count knots) out.old) }
 {
     store(out, 0, header_word(count as u8, PLAIN_EDITION));
     let mut i = 1;

@@ -2,13 +2,13 @@
 -- the scans that stand.
 use Rattle.std.specs.Prelude.{Bool, true, false, List, [], ◌∷◌, ◌++◌, ℕ, ◌-◌, ℤ, pos, length, set}
 use Rattle.std.proofs.Math.Option.{Option, none, some}
-use Rattle.scans.specs.Scan.{Scan, scanOf, at, before, after}
-use Rattle.scans.specs.RefusalTable.{Cause, first, noKnot, shortOutput}
-use Rattle.scans.specs.Order.{appendCauses, correctCauses, queryCauses, rangeCauses}
+use Rattle.scans.specs.Scan.{Scan, scan_of, at, before, after}
+use Rattle.scans.specs.RefusalTable.{Cause, first, no_knot, short_output}
+use Rattle.scans.specs.Order.{append_causes, correct_causes, query_causes, range_causes}
 use Rattle.scans.specs.Pieces.{mark}
-use Rattle.scans.specs.Queries.{value_at, trendAt, totalOver}
+use Rattle.scans.specs.Queries.{value_at, trend_at, total_over}
 use Rattle.block.specs.Block.{block, written}
-use Rattle.block.specs.Reading.{blockCauses, list_of}
+use Rattle.block.specs.Reading.{block_causes, list_of}
 
 -- a call of a sequence, with its arguments: of read the bytes of its block, of write those of the lent output as they
 -- are before, of value and trend the query position in 1/256 step, of total the knots i and j
@@ -30,23 +30,23 @@ pub data Reply : Type 0 where
 
 -- scan k with other coefficients: its position stays
 abbrev pub corrected : List Scan → ℕ → List ℤ → Scan
-corrected scans k C = scanOf (at scans k).position C
+corrected scans k C = scan_of (at scans k).position C
 
 -- document 01, "Refusal table", Order: the causes of each call, in the order in which they are asked
 abbrev pub causes : Call → List Scan → List Cause
 causes clear scans = []
-causes (append x C) scans = appendCauses (length scans) (before scans (length scans)) x C
-causes (correct k C) scans = correctCauses k (length scans) (before scans k) (at scans k).position (after scans k) C
-causes (read bytes) scans = blockCauses bytes
-causes (write out) scans = shortOutput (length out) (length (block scans)) ∷ []
-causes (value x) scans = queryCauses (length scans) (mark scans 0) (mark scans (length scans - 1)) x
-causes (trend x) scans = queryCauses (length scans) (mark scans 0) (mark scans (length scans - 1)) x
-causes (total i j) scans = rangeCauses (length scans) i j
+causes (append x C) scans = append_causes (length scans) (before scans (length scans)) x C
+causes (correct k C) scans = correct_causes k (length scans) (before scans k) (at scans k).position (after scans k) C
+causes (read bytes) scans = block_causes bytes
+causes (write out) scans = short_output (length out) (length (block scans)) ∷ []
+causes (value x) scans = query_causes (length scans) (mark scans 0) (mark scans (length scans - 1)) x
+causes (trend x) scans = query_causes (length scans) (mark scans 0) (mark scans (length scans - 1)) x
+causes (total i j) scans = range_causes (length scans) i j
 
 -- the list as an accepted call leaves it
 abbrev pub changed : Call → List Scan → List Scan
 changed clear scans = []
-changed (append x C) scans = scans ++ scanOf x C ∷ []
+changed (append x C) scans = scans ++ scan_of x C ∷ []
 changed (correct k C) scans = set scans k (corrected scans k C)
 changed (read bytes) scans = list_of bytes
 changed (write out) scans = scans
@@ -73,8 +73,8 @@ says (correct k C) scans = accepted
 says (read bytes) scans = accepted
 says (write out) scans = number (pos (length (block scans)))
 says (value x) scans = number (value_at scans x)
-says (trend x) scans = number (trendAt scans x)
-says (total i j) scans = number (totalOver scans i j)
+says (trend x) scans = number (trend_at scans x)
+says (total i j) scans = number (total_over scans i j)
 
 -- the lent output as it was, and as an accepted call leaves it; no bytes where nothing is lent
 abbrev pub lent : Call → List ℕ
@@ -108,15 +108,15 @@ kept none old new = new
 kept (some n) old new = old
 
 -- what a call answers, the list it leaves, and what then stands in the output
-unfoldable pub replyTo : Call → List Scan → Reply
-replyTo call scans = answered (first (causes call scans)) (says call scans)
+unfoldable pub reply_to : Call → List Scan → Reply
+reply_to call scans = answered (first (causes call scans)) (says call scans)
 
-unfoldable pub standingAfter : Call → List Scan → List Scan
-standingAfter call scans = kept (first (causes call scans)) scans (changed call scans)
+unfoldable pub standing_after : Call → List Scan → List Scan
+standing_after call scans = kept (first (causes call scans)) scans (changed call scans)
 
 unfoldable pub output : Call → List Scan → List ℕ
 output call scans = kept (first (causes call scans)) (lent call) (filled call scans)
 
 -- not a call of the sequences: the position of scan k
 unfoldable pub position_of : ℕ → List Scan → Reply
-position_of k scans = answered (first (noKnot k (length scans) ∷ [])) (number (pos (at scans k).position))
+position_of k scans = answered (first (no_knot k (length scans) ∷ [])) (number (pos (at scans k).position))

@@ -7,33 +7,33 @@ use native.Mathlib.Omega.{arith}
 use lib.ListN.{length}
 use Rattle.rounding.specs.Size.{Admitted}
 use Rattle.scans.specs.Scan.{Scan, at}
-use Rattle.knot.specs.Machine.{scan, knotIn, scansIn}
+use Rattle.knot.specs.Machine.{scan, knot_in, scans_in}
 use Rattle.knot.specs.declared.held.Knot.{Knot}
-use Rattle.knot.proofs.Lists.{length-scans, at-scans}
+use Rattle.knot.proofs.Lists.{length-scans, at_scans}
 use Rattle.scans.specs.Pieces.{between, piece_of, mark}
 use Rattle.chain.specs.Machine.{Chained}
 use Rattle.scans.proofs.Pieces.{piece-admitted}
 
 -- a scan lies where its knot does
-pub mark-is : (scans : List Scan) (k : ℕ) (knot : Knot) → at scans k ≡ scan knot → mark scans k ≡ 256 * knot.position
-mark-is scans k knot is = ap (λ s. 256 * s.position) is
+pub mark_is : (scans : List Scan) (k : ℕ) (knot : Knot) → at scans k ≡ scan knot → mark scans k ≡ 256 * knot.position
+mark_is scans k knot is = ap (λ s. 256 * s.position) is
 
 module _ (knots : List Knot) (n : ℕ) (chained : Chained knots n) where
   room : n ≤ length knots
   room = omega (arith, chained.filled.room, chained.filled.count)
 
-  pub count-is : length (scansIn n knots) ≡ n
-  count-is = length-scans knots n room
+  pub count_is : length (scans_in n knots) ≡ n
+  count_is = length-scans knots n room
 
-  pub scan-at : (k : ℕ) → k < n → at (scansIn n knots) k ≡ scan (knotIn knots k)
-  scan-at = at-scans knots n room
+  pub scan_at : (k : ℕ) → k < n → at (scans_in n knots) k ≡ scan (knot_in knots k)
+  scan_at = at_scans knots n room
 
-  pub mark-at : (k : ℕ) → k < n → mark (scansIn n knots) k ≡ 256 * (knotIn knots k).position
-  mark-at k h = mark-is (scansIn n knots) k (knotIn knots k) (scan-at k h)
+  pub mark_at : (k : ℕ) → k < n → mark (scans_in n knots) k ≡ 256 * (knot_in knots k).position
+  mark_at k h = mark_is (scans_in n knots) k (knot_in knots k) (scan_at k h)
 
   module _ (k : ℕ) (h : k + 1 < n) where
-    pub between_is : between (scan (knotIn knots k)) (scan (knotIn knots (k + 1))) ≡ piece_of (scansIn n knots) k
-    between_is = ap₂ between (sym (scan-at k (omega arith))) (sym (scan-at (k + 1) h) ∙ ap (at (scansIn n knots)) (add-one k))
+    pub between_is : between (scan (knot_in knots k)) (scan (knot_in knots (k + 1))) ≡ piece_of (scans_in n knots) k
+    between_is = ap₂ between (sym (scan_at k (omega arith))) (sym (scan_at (k + 1) h) ∙ ap (at (scans_in n knots)) (add-one k))
 
-    pub between-admitted : Admitted (between (scan (knotIn knots k)) (scan (knotIn knots (k + 1))))
-    between-admitted = rw between_is (piece-admitted (scansIn n knots) chained.standing k (omega (arith, count-is)))
+    pub between-admitted : Admitted (between (scan (knot_in knots k)) (scan (knot_in knots (k + 1))))
+    between-admitted = rw between_is (piece-admitted (scans_in n knots) chained.standing k (omega (arith, count_is)))

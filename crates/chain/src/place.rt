@@ -1,6 +1,6 @@
 // The piece that a query position is in, and the one that its trend is taken from.
 ghost use Rattle.std.specs.Prelude.{◌≡◌};
-ghost use Rattle.knot.specs.Machine.{Graded, scansIn};
+ghost use Rattle.knot.specs.Machine.{Graded, scans_in};
 ghost use Rattle.scans.specs.Pieces.{piece_at};
 ghost use Rattle.chain.specs.Machine.{PieceOfTrend, Reached};
 
@@ -11,7 +11,7 @@ use rounding::POSITION_UNIT;
 // `high`, where there is one, after it.
 pub fn piece_at(knots: [Knot; KNOTS_MAX], count: usize, x: u32) -> usize
     requires { Reached knots count x }
-    ensures { result ≡ piece_at (scansIn count knots) x }
+    ensures { result ≡ piece_at (scans_in count knots) x }
 {
     let mut low = 0;
     let mut high = count - 1;

@@ -1,13 +1,13 @@
 // Value, trend and total of the first `count` knots of an array.
 ghost use Rattle.std.specs.Prelude.{◌≡◌, ◌*◌, ◌≤◌, ◌<◌};
-ghost use Rattle.rounding.specs.Piece.{positionUnit};
+ghost use Rattle.rounding.specs.Piece.{position_unit};
 ghost use Rattle.rounding.specs.Size.{Admitted};
-ghost use Rattle.rounding.specs.Value.{value as Value·value};
-ghost use Rattle.rounding.specs.Trend.{trend as Trend·trend};
-ghost use Rattle.rounding.specs.Water.{total as Water·total};
-ghost use Rattle.knot.specs.Machine.{Graded, scan, scansIn};
+ghost use Rattle.rounding.specs.Value;
+ghost use Rattle.rounding.specs.Trend;
+ghost use Rattle.rounding.specs.Water;
+ghost use Rattle.knot.specs.Machine.{Graded, scan, scans_in};
 ghost use Rattle.scans.specs.Pieces.{between};
-ghost use Rattle.scans.specs.Queries.{totalOver, trendAt, value_at};
+ghost use Rattle.scans.specs.Queries.{total_over, trend_at, value_at};
 ghost use Rattle.chain.specs.Machine.{Chained, Reached};
 
 use crate::place::{piece_at, piece_of_trend};
@@ -17,8 +17,8 @@ use rounding::POSITION_UNIT;
 // The value at distance r from the first of two knots.
 fn value_between(left: Knot, right: Knot, r: u64) -> i64
     requires { (Graded left) × (Graded right) × (Admitted (between (scan left) (scan right)))
-        × (r ≤ positionUnit * (between (scan left) (scan right)).h) }
-    ensures { result ≡ Value·value (between (scan left) (scan right)) r }
+        × (r ≤ position_unit * (between (scan left) (scan right)).h) }
+    ensures { result ≡ Value.value (between (scan left) (scan right)) r }
 {
     let p = left.coefficients;
     let q = right.coefficients;
@@ -35,8 +35,8 @@ fn value_between(left: Knot, right: Knot, r: u64) -> i64
 // The trend there.
 fn trend_between(left: Knot, right: Knot, r: u64) -> i64
     requires { (Graded left) × (Graded right) × (Admitted (between (scan left) (scan right)))
-        × (r ≤ positionUnit * (between (scan left) (scan right)).h) }
-    ensures { result ≡ Trend·trend (between (scan left) (scan right)) r }
+        × (r ≤ position_unit * (between (scan left) (scan right)).h) }
+    ensures { result ≡ Trend.trend (between (scan left) (scan right)) r }
 {
     let p = left.coefficients;
     let q = right.coefficients;
@@ -53,7 +53,7 @@ fn trend_between(left: Knot, right: Knot, r: u64) -> i64
 // The total of the piece between two knots.
 fn total_between(left: Knot, right: Knot) -> i64
     requires { (Graded left) × (Graded right) × (Admitted (between (scan left) (scan right))) }
-    ensures { result ≡ Water·total (between (scan left) (scan right)) }
+    ensures { result ≡ Water.total (between (scan left) (scan right)) }
 {
     let p = left.coefficients;
     let q = right.coefficients;
@@ -65,7 +65,7 @@ fn total_between(left: Knot, right: Knot) -> i64
 // The value at query position x, which lies from the first knot to the last.
 pub fn value(knots: [Knot; KNOTS_MAX], count: usize, x: u32) -> i64
     requires { Reached knots count x }
-    ensures { result ≡ value_at (scansIn count knots) x }
+    ensures { result ≡ value_at (scans_in count knots) x }
 {
     let k = piece_at(knots, count, x);
     let left = knots[k];
@@ -76,7 +76,7 @@ pub fn value(knots: [Knot; KNOTS_MAX], count: usize, x: u32) -> i64
 // The trend at query position x, which lies from the first knot to the last.
 pub fn trend(knots: [Knot; KNOTS_MAX], count: usize, x: u32) -> i64
     requires { Reached knots count x }
-    ensures { result ≡ trendAt (scansIn count knots) x }
+    ensures { result ≡ trend_at (scans_in count knots) x }
 {
     let assigned = piece_at(knots, count, x);
     let start = knots[assigned];
@@ -89,7 +89,7 @@ pub fn trend(knots: [Knot; KNOTS_MAX], count: usize, x: u32) -> i64
 // The total of pieces i to j − 1.
 pub fn total(knots: [Knot; KNOTS_MAX], count: usize, i: usize, j: usize) -> i64
     requires { (Chained knots count) × (i ≤ j) × (j < count) }
-    ensures { result ≡ totalOver (scansIn count knots) i j }
+    ensures { result ≡ total_over (scans_in count knots) i j }
 {
     let mut sum = 0;
     let mut k = i;

@@ -2,7 +2,7 @@
 ghost use Rattle.std.specs.Prelude.{map, ◌≡◌, ◌+◌, ◌+ℤ◌, ◌*ℤ◌, length};
 ghost use Rattle.integer.specs.Within.{Within};
 ghost use Rattle.hermite.specs.Polynomial.{◌⊕◌, ◌⊙◌};
-ghost use Rattle.rounding.specs.Limits.{gradeMax, multiplierMax};
+ghost use Rattle.rounding.specs.Limits.{grade_max, multiplier_max};
 ghost use Rattle.combination.specs.Machine.{limited};
 
 use knot::{COEFFICIENTS_MAX, SIZE_MAX};
@@ -11,7 +11,7 @@ use magnitude::magnitude;
 // One coefficient as a knot holds it. One above 2^28 in size breaks the size rule at every gap; it is tested before it
 // is narrowed, and 2^28 + 1 stands for it, which breaks the rule at every gap too: so the same order is named.
 fn coefficient(alpha: i32, a: i32, beta: i32, b: i32) -> i32
-    requires { (Within multiplierMax alpha) × (Within multiplierMax beta) }
+    requires { (Within multiplier_max alpha) × (Within multiplier_max beta) }
     ensures { result ≡ limited (alpha *ℤ a +ℤ beta *ℤ b) }
 {
     let c = alpha as i64 * a as i64 + beta as i64 * b as i64;
@@ -28,8 +28,8 @@ pub fn combined_list(
     beta: i32,
     b: [i32; COEFFICIENTS_MAX],
 ) -> [i32; COEFFICIENTS_MAX]
-    requires within { (Within multiplierMax alpha) × (Within multiplierMax beta) }
-    requires a_len { (length a ≡ gradeMax + 1) × (length b ≡ gradeMax + 1) }
+    requires within { (Within multiplier_max alpha) × (Within multiplier_max beta) }
+    requires a_len { (length a ≡ grade_max + 1) × (length b ≡ grade_max + 1) }
     ensures { result ≡ map limited (alpha ⊙ a ⊕ beta ⊙ b) }
 {
     let mut c = [0i32; COEFFICIENTS_MAX];

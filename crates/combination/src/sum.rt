@@ -1,12 +1,12 @@
 // The sum of two lists of knots, knot by knot, and the first cause that refuses it.
 ghost use Rattle.std.specs.Prelude.{[], ◌∷◌, ◌≡◌};
 ghost use Rattle.integer.specs.Within.{Within};
-ghost use Rattle.rounding.specs.Limits.{multiplierMax};
+ghost use Rattle.rounding.specs.Limits.{multiplier_max};
 ghost use Rattle.scans.specs.Standing.{Standing};
-ghost use Rattle.scans.specs.RefusalTable.{badMultiplier, first};
-ghost use Rattle.scans.specs.Combination.{combinedScan};
-ghost use Rattle.knot.specs.Machine.{Filled, Graded, Holds, refusal, scan, scansIn};
-ghost use Rattle.combination.specs.Machine.{Summable, SumsKnots, SumsReels, limitedScan};
+ghost use Rattle.scans.specs.RefusalTable.{bad_multiplier, first};
+ghost use Rattle.scans.specs.Combination.{combined_scan};
+ghost use Rattle.knot.specs.Machine.{Filled, Graded, Holds, refusal, scan, scans_in};
+ghost use Rattle.combination.specs.Machine.{Summable, SumsKnots, SumsReels, limited_scan};
 
 use crate::coefficients::combined_list;
 use comparison::all_aligned;
@@ -24,9 +24,9 @@ pub struct Sum {
 
 // The sum of two knots at one position and of one grade.
 fn combined_knot(alpha: i32, a: Knot, beta: i32, b: Knot) -> Knot
-    requires within { (Within multiplierMax alpha) × (Within multiplierMax beta) }
+    requires within { (Within multiplier_max alpha) × (Within multiplier_max beta) }
     requires graded { (Graded a) × (Graded b) × (a.grade ≡ b.grade) }
-    ensures { Holds result (limitedScan (combinedScan alpha beta (scan a) (scan b))) }
+    ensures { Holds result (limited_scan (combined_scan alpha beta (scan a) (scan b))) }
 {
     let mine = a.coefficients;
     let its = b.coefficients;
@@ -46,7 +46,7 @@ fn summed(
     count: usize,
 ) -> Sum
     requires { Summable alpha beta knots others count }
-    ensures { SumsKnots result count alpha beta (scansIn count knots) (scansIn count others) }
+    ensures { SumsKnots result count alpha beta (scans_in count knots) (scans_in count others) }
 {
     let first = knots[0];
     let mut last = Neighbour {
@@ -81,7 +81,7 @@ fn summed(
 
 // Of the multipliers: 14.
 fn multiplier_cause(alpha: i32, beta: i32) -> Verdict
-    ensures { refusal result ≡ first (badMultiplier alpha ∷ badMultiplier beta ∷ []) }
+    ensures { refusal result ≡ first (bad_multiplier alpha ∷ bad_multiplier beta ∷ []) }
 {
     if MULTIPLIER_MAX < magnitude(alpha as i64) {
         return Verdict::Refused(Refusal::Multiplier);
@@ -102,8 +102,8 @@ pub fn combine(
     others: [Knot; KNOTS_MAX],
     other_count: usize,
 ) -> Sum
-    requires { (Filled knots count) × (Filled others other_count) × (Standing (scansIn count knots)) }
-    ensures { SumsReels result count alpha beta (scansIn count knots) (scansIn other_count others) }
+    requires { (Filled knots count) × (Filled others other_count) × (Standing (scans_in count knots)) }
+    ensures { SumsReels result count alpha beta (scans_in count knots) (scans_in other_count others) }
 {
     if let Verdict::Refused(cause) = multiplier_cause(alpha, beta) {
         return Sum {

@@ -1,14 +1,15 @@
 // The positions and grades of two lists, knot by knot.
 ghost use Rattle.std.specs.Prelude.{◌≡◌};
-ghost use Rattle.scans.specs.Combination.{aligned as Combination·aligned, allAligned};
-ghost use Rattle.knot.specs.Machine.{Filled, Graded, scan, scansIn};
+ghost use Rattle.scans.specs.Combination;
+ghost use Rattle.scans.specs.Combination.{all_aligned};
+ghost use Rattle.knot.specs.Machine.{Filled, Graded, scan, scans_in};
 
 use knot::{KNOTS_MAX, Knot};
 
 // Whether two knots agree in position and grade.
 pub(crate) fn aligned(a: Knot, b: Knot) -> bool
     requires { (Graded a) × (Graded b) }
-    ensures { result ≡ Combination·aligned (scan a) (scan b) }
+    ensures { result ≡ Combination.aligned (scan a) (scan b) }
 {
     if a.position != b.position {
         return false;
@@ -25,7 +26,7 @@ pub fn all_aligned(
     other_count: usize,
 ) -> bool
     requires { (Filled knots count) × (Filled others other_count) }
-    ensures { result ≡ allAligned (scansIn count knots) (scansIn other_count others) }
+    ensures { result ≡ all_aligned (scans_in count knots) (scans_in other_count others) }
 {
     if count != other_count {
         return false;

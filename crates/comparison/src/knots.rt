@@ -1,16 +1,16 @@
 // The knots of two lists, one by one: position, grade and coefficients.
 ghost use Rattle.std.specs.Prelude.{◌≡◌, ◌+◌, ◌≤◌, length, take};
 ghost use Rattle.integer.specs.Tests.{equal, pairwise};
-ghost use Rattle.rounding.specs.Limits.{gradeMax};
-ghost use Rattle.knot.specs.Machine.{Filled, Graded, scan, scansIn};
-ghost use Rattle.calls.specs.Same.{agree as Same·agree, same as Same·same};
+ghost use Rattle.rounding.specs.Limits.{grade_max};
+ghost use Rattle.knot.specs.Machine.{Filled, Graded, scan, scans_in};
+ghost use Rattle.calls.specs.Same;
 
 use crate::alignment::aligned;
 use knot::{COEFFICIENTS_MAX, KNOTS_MAX, Knot};
 
 // Whether two lists of this grade agree; the coefficients past it are free, and are not looked at.
 fn lists_agree(grade: u8, c: [i32; COEFFICIENTS_MAX], d: [i32; COEFFICIENTS_MAX]) -> bool
-    requires { (grade ≤ gradeMax) × (length c ≡ gradeMax + 1) × (length d ≡ gradeMax + 1) }
+    requires { (grade ≤ grade_max) × (length c ≡ grade_max + 1) × (length d ≡ grade_max + 1) }
     ensures { result ≡ pairwise equal (take (grade + 1) c) (take (grade + 1) d) }
 {
     let m = grade as usize;
@@ -27,7 +27,7 @@ fn lists_agree(grade: u8, c: [i32; COEFFICIENTS_MAX], d: [i32; COEFFICIENTS_MAX]
 // Whether two knots agree in position, grade and all coefficients.
 fn agree(a: Knot, b: Knot) -> bool
     requires { (Graded a) × (Graded b) }
-    ensures { result ≡ Same·agree (scan a) (scan b) }
+    ensures { result ≡ Same.agree (scan a) (scan b) }
 {
     if !aligned(a, b) {
         return false;
@@ -46,7 +46,7 @@ pub fn same(
     other_count: usize,
 ) -> bool
     requires { (Filled knots count) × (Filled others other_count) }
-    ensures { result ≡ Same·same (scansIn count knots) (scansIn other_count others) }
+    ensures { result ≡ Same.same (scans_in count knots) (scans_in other_count others) }
 {
     if count != other_count {
         return false;

@@ -6,11 +6,11 @@ use mathlib.Core.Path.{◌≡◌, sym, ◌∙◌, ap}
 use Prim.Native.Nat.{ℕ}
 use lib.Dec.{eqb}
 use Rattle.scans.specs.Scan.{Scan}
-use Rattle.scans.specs.SizeRule.{Product, firstTooLarge}
-use Rattle.scans.specs.RefusalTable.{Cause, first, badSize}
+use Rattle.scans.specs.SizeRule.{Product, first_too_large}
+use Rattle.scans.specs.RefusalTable.{Cause, first, bad_size}
 use Rattle.scans.specs.Reason.{reason}
 use Rattle.scans.proofs.Reason.{other-reason, size-reason}
-use Rattle.knot.specs.Machine.{Holds, refusal, spotIn}
+use Rattle.knot.specs.Machine.{Holds, refusal, spot_in}
 use Rattle.knot.specs.declared.reason.Reason.TheVariants as Reasons
 use Rattle.knot.specs.declared.table.Verdict.{Verdict}
 use Rattle.knot.specs.declared.table.Verdict.TheVariants as Verdicts
@@ -24,14 +24,14 @@ module _ (r : Found) (causes : List Cause) (tested : List Product) (s : Scan) wh
   refuses {n = n} is v other e = record {
     verdict = ap refusal is.0 ∙ v ∙ sym e;
     knot = λ q. absurd (some-ne-none _ (sym e ∙ q));
-    reason = ap spotIn is.1 ∙ sym (ap (λ f. reason f tested) e ∙ other-reason n tested other);
+    reason = ap spot_in is.1 ∙ sym (ap (λ f. reason f tested) e ∙ other-reason n tested other);
   }
 
   -- the verdict is made of the reason
-  pub sizes : first causes ≡ first (badSize (firstTooLarge tested) ∷ []) → spotIn r.reason ≡ firstTooLarge tested →
-      refusal r.verdict ≡ first (badSize (spotIn r.reason) ∷ []) → Holds r.knot s → Finds r causes tested s
+  pub sizes : first causes ≡ first (bad_size (first_too_large tested) ∷ []) → spot_in r.reason ≡ first_too_large tested →
+      refusal r.verdict ≡ first (bad_size (spot_in r.reason) ∷ []) → Holds r.knot s → Finds r causes tested s
   sizes e found v holds = record {
-    verdict = v ∙ ap (λ f. first (badSize f ∷ [])) found ∙ sym e;
+    verdict = v ∙ ap (λ f. first (bad_size f ∷ [])) found ∙ sym e;
     knot = λ q. holds;
     reason = found ∙ sym (ap (λ f. reason f tested) e ∙ size-reason tested);
   }

@@ -1,6 +1,6 @@
 // The first cause that refuses a call which puts a knot into the list, or the knot that it puts there.
 ghost use Rattle.std.specs.Prelude.{true, ◌≡◌, ◌<◌, ltb};
-ghost use Rattle.scans.specs.Scan.{scanOf};
+ghost use Rattle.scans.specs.Scan.{scan_of};
 ghost use Rattle.knot.specs.Machine.{Graded};
 ghost use Rattle.knot.specs.declared.reason.Reason.TheVariants as Reasons;
 ghost use Rattle.knot.specs.declared.table.Verdict.TheVariants as Verdicts;
@@ -31,7 +31,7 @@ fn refused(cause: Refusal, knot: Knot) -> Found
 // Append after `held`, the last of so many knots: 2, 3, 4, 5, 6. With no knot held any may stand for it.
 pub fn append_cause(count: usize, held: Knot, position: u32, coefficients: &[i32]) -> Found
     requires { ltb 0 count ≡ true → Graded held }
-    ensures { FindsAppended result count (beside (ltb 0 count) held) (scanOf position coefficients.now) }
+    ensures { FindsAppended result count (beside (ltb 0 count) held) (scan_of position coefficients.now) }
 {
     if KNOTS_MAX <= count {
         return refused(Refusal::Full, held);

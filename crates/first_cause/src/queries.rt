@@ -1,9 +1,9 @@
 // The first cause that refuses a query: 7 to 9 of the refusal table.
 ghost use Rattle.std.specs.Prelude.{◌≡◌, ◌*◌};
-ghost use Rattle.rounding.specs.Piece.{positionUnit};
-ghost use Rattle.scans.specs.RefusalTable.{first as RefusalTable·first};
+ghost use Rattle.rounding.specs.Piece.{position_unit};
+ghost use Rattle.scans.specs.RefusalTable;
 ghost use Rattle.knot.specs.Machine.{refusal};
-ghost use Rattle.scans.specs.Order.{queryCauses, rangeCauses};
+ghost use Rattle.scans.specs.Order.{query_causes, range_causes};
 
 use knot::{Refusal, Verdict};
 use rounding::POSITION_UNIT;
@@ -13,8 +13,8 @@ pub const KNOTS_MIN: usize = 2;
 
 // Of a query position, with the positions of the first and the last knot: 8, then 7.
 pub fn query_cause(count: usize, first: u16, last: u16, x: u32) -> Verdict
-    ensures { refusal result ≡ RefusalTable·first
-        (queryCauses count (positionUnit * first) (positionUnit * last) x) }
+    ensures { refusal result ≡ RefusalTable.first
+        (query_causes count (position_unit * first) (position_unit * last) x) }
 {
     if count < KNOTS_MIN {
         return Verdict::Refused(Refusal::Few);
@@ -30,7 +30,7 @@ pub fn query_cause(count: usize, first: u16, last: u16, x: u32) -> Verdict
 
 // Of a range of pieces: 8, then 9.
 pub fn range_cause(count: usize, i: u32, j: u32) -> Verdict
-    ensures { refusal result ≡ RefusalTable·first (rangeCauses count i j) }
+    ensures { refusal result ≡ RefusalTable.first (range_causes count i j) }
 {
     if count < KNOTS_MIN {
         return Verdict::Refused(Refusal::Few);

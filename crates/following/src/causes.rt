@@ -1,9 +1,9 @@
 // What refuses a new knot: causes 3 to 5 of the refusal table; and for 6 what is too large, of a knot after the last
 // one or between its neighbours.
 ghost use Rattle.std.specs.Prelude.{true, ◌≡◌, ◌≤◌};
-ghost use Rattle.scans.specs.SizeRule.{appendProducts, firstTooLarge, sizeProducts};
-ghost use Rattle.scans.specs.RefusalTable.{first, listCauses, positionCauses};
-ghost use Rattle.knot.specs.Machine.{Graded, refusal, scan, spotIn};
+ghost use Rattle.scans.specs.SizeRule.{append_products, first_too_large, size_products};
+ghost use Rattle.scans.specs.RefusalTable.{first, list_causes, position_causes};
+ghost use Rattle.knot.specs.Machine.{Graded, refusal, scan, spot_in};
 ghost use Rattle.following.specs.Machine.{CloseAfter, CloseBefore, neighbour};
 
 use knot::{COEFFICIENTS_MAX, GAP_MAX, Knot, POSITION_MAX, Reason, Refusal, Verdict, gap};
@@ -17,7 +17,7 @@ pub struct Neighbour {
 
 // Of a list: 3.
 pub fn list_cause(length: usize) -> Verdict
-    ensures { refusal result ≡ first (listCauses length) }
+    ensures { refusal result ≡ first (list_causes length) }
 {
     if length == 0 {
         return Verdict::Refused(Refusal::List);
@@ -30,7 +30,7 @@ pub fn list_cause(length: usize) -> Verdict
 
 // Of a position after the last knot: 4, then 5.
 pub fn position_cause(last: Neighbour, position: u32) -> Verdict
-    ensures { refusal result ≡ first (positionCauses (neighbour last) position) }
+    ensures { refusal result ≡ first (position_causes (neighbour last) position) }
 {
     if POSITION_MAX < position {
         return Verdict::Refused(Refusal::Position);
@@ -51,7 +51,7 @@ pub fn position_cause(last: Neighbour, position: u32) -> Verdict
 // What is too large of knot k between its neighbours: with the left gap, then with the right.
 pub fn size_reason(k: u32, left: Neighbour, knot: Knot, right: Neighbour) -> Reason
     requires { (Graded knot) × (CloseBefore left knot.position) × (CloseAfter knot.position right) }
-    ensures { spotIn result ≡ firstTooLarge (sizeProducts k (neighbour left) (scan knot) (neighbour right)) }
+    ensures { spot_in result ≡ first_too_large (size_products k (neighbour left) (scan knot) (neighbour right)) }
 {
     let position = knot.position;
     if left.there {
@@ -74,7 +74,7 @@ pub fn size_reason(k: u32, left: Neighbour, knot: Knot, right: Neighbour) -> Rea
 pub fn follow_reason(k: u32, last: Neighbour, next: Knot) -> Reason
     requires { (Graded next) × (last.there ≡ true → (Graded last.knot) × (1 ≤ k))
         × (CloseBefore last next.position) }
-    ensures { spotIn result ≡ firstTooLarge (appendProducts k (neighbour last) (scan next)) }
+    ensures { spot_in result ≡ first_too_large (append_products k (neighbour last) (scan next)) }
 {
     let nothing = Neighbour {
         there: false,

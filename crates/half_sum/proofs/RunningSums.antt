@@ -8,30 +8,30 @@ use lib.Dec.{lit<, lit≤}
 use lib.IntN.{ℤ}
 use lib.ListN.{length}
 use Rattle.integer.specs.Within.{Within}
-use Rattle.integer.proofs.Sum.{sum-cong}
+use Rattle.integer.proofs.Sum.{sum_cong}
 use Rattle.integer.proofs.Within.{within-sum, within_more, shares-most}
 use Rattle.hermite.specs.HalfSum.{g}
 use Rattle.hermite.specs.Polynomial.{coefficient}
-use Rattle.hermite.specs.RunningSums.{oneRound, rounds}
+use Rattle.hermite.specs.RunningSums.{one_round, rounds}
 use Rattle.hermite.proofs.RunningSums.{rounds-are-sums}
 use Rattle.rounding.proofs.Agree.{Agree}
-use Rattle.rounding.specs.Limits.{sizeMax}
+use Rattle.rounding.specs.Limits.{size_max}
 use Rattle.knot_weights.specs.Machine.{Lists, Weights}
 use Rattle.half_sum.specs.Machine.{Room}
 
 -- rounds on what rounds left
 after : (k j : ℕ) (w : ℕ → ℤ) (i : ℕ) → rounds k (rounds j w) i ≡ rounds (k + j) w i
-unfolding rounds oneRound
+unfolding rounds one_round
 after zero j w i = let e : 0 + j ≡ j = omega arith in rw e refl
 after (suc k) j w i =
     let e : suc k + j ≡ suc (k + j) = omega arith in
-    rw e (sum-cong i _ _ (λ x h. after k j w x))
+    rw e (sum_cong i _ _ (λ x h. after k j w x))
 
 -- entries past 7 change none of the first 8
 agree : (k : ℕ) {v w : ℕ → ℤ} → Agree 7 v w → Agree 7 (rounds k v) (rounds k w)
-unfolding rounds oneRound
+unfolding rounds one_round
 agree zero e = e
-agree (suc k) e = λ i h. sum-cong i _ _ (λ x b. agree k e x (omega arith))
+agree (suc k) e = λ i h. sum_cong i _ _ (λ x b. agree k e x (omega arith))
 
 pub more-rounds : (w : List ℤ) {v u : List ℤ} (k j : ℕ) → Lists v (rounds j (coefficient w)) → Lists u (rounds k (coefficient v)) →
     Lists u (rounds (k + j) (coefficient w))
@@ -40,8 +40,8 @@ more-rounds w k j first then =
 
 -- ---- that they fit
 
-pub room-less : {w : List ℤ} (k j : ℕ) → j ≤ k → Room k w → Room j w
-room-less k j h room = record { count = room.count; fits = λ x i b. room.fits x i (le_trans b h) }
+pub room_less : {w : List ℤ} (k j : ℕ) → j ≤ k → Room k w → Room j w
+room_less k j h room = record { count = room.count; fits = λ x i b. room.fits x i (le_trans b h) }
 
 -- what is left of the room after j rounds
 pub room-left : {w v : List ℤ} (k j : ℕ) → Room (k + j) w → Lists v (rounds j (coefficient w)) → Room k v
@@ -52,7 +52,7 @@ room-left {w} {v} k j room lists = record {
 
 -- a round makes 8 numbers at most 8 times as large
 rounds-within : (k : ℕ) {B : ℕ} {w : ℕ → ℤ} → ((j : ℕ) → j ≤ 7 → Within B (w j)) → (i : ℕ) → i ≤ 7 → Within (8 ^ k * B) (rounds k w i)
-unfolding rounds oneRound
+unfolding rounds one_round
 rounds-within zero small i h = within_more (omega arith) (small i h)
 rounds-within (suc k) {B} small i h =
     within_more (simp pow-suc (omega arith))
@@ -60,11 +60,11 @@ rounds-within (suc k) {B} small i h =
     (λ j b. within_more (omega arith) (rounds-within k small j (omega arith))))
 
 -- room for 9 rounds
-pub weights-room : {w : List ℤ} (k : ℕ) → k ≤ 9 → Weights (7 * sizeMax) w → Room k w
+pub weights-room : {w : List ℤ} (k : ℕ) → k ≤ 9 → Weights (7 * size_max) w → Room k w
 weights-room {w} k h weights = record {
   count = weights.count;
   fits = λ j i b c. within_more
-      (le_trans (mul-le-mul_right (7 * sizeMax) (pow-le-pow_right {n = 8} (lit< tt) (le_trans b h))) (lit≤ tt)) (rounds-within j weights.small i c);
+      (le_trans (mul-le-mul_right (7 * size_max) (pow-le-pow_right {n = 8} (lit< tt) (le_trans b h))) (lit≤ tt)) (rounds-within j weights.small i c);
 }
 
 -- ---- some of them at a time
@@ -84,7 +84,7 @@ module _ {w₀ : List ℤ} {asked : ℕ} {w : List ℤ} {due : ℕ} (made : Made
   pub made-room : (k : ℕ) → k ≤ due → Room asked w₀ → Room k w
   made-room k h room =
       let all : due + (asked - due) ≡ asked = omega (arith, made.most) in
-      room-less due k h (room-left {w = w₀} due (asked - due) (rw all room) made.lists)
+      room_less due k h (room-left {w = w₀} due (asked - due) (rw all room) made.lists)
 
   pub made_more : {v : List ℤ} (k : ℕ) → k ≤ due → Lists v (rounds k (coefficient w)) → Made w₀ asked v (due - k)
   made_more k h lists =

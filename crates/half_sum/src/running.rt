@@ -3,14 +3,14 @@
 ghost use Rattle.std.specs.Prelude.{◌+◌, ◌*◌, ◌≤◌};
 ghost use Rattle.half_sum.specs.Machine.{Room};
 ghost use Rattle.hermite.specs.Polynomial.{coefficient};
-ghost use Rattle.hermite.specs.RunningSums.{rounds as RunningSums·rounds};
+ghost use Rattle.hermite.specs.RunningSums;
 ghost use Rattle.knot_weights.specs.Machine.{Lists, Weights};
-ghost use Rattle.rounding.specs.Limits.{gradeMax, sizeMax};
+ghost use Rattle.rounding.specs.Limits.{grade_max, size_max};
 
 // One round: each entry becomes the sum of the entries up to it.
 fn one_round(w: &mut [i64; 8])
     requires { Room 1 w.old }
-    ensures { Lists w.new (RunningSums·rounds 1 (coefficient w.old)) }
+    ensures { Lists w.new (RunningSums.rounds 1 (coefficient w.old)) }
 {
     let mut sum = w[0];
     let mut ahead = 7;
@@ -26,7 +26,7 @@ fn one_round(w: &mut [i64; 8])
 // Of a loop over rounds it makes a polynomial in their count, which is slower.
 fn two_rounds(w: &mut [i64; 8])
     requires { Room 2 w.old }
-    ensures { Lists w.new (RunningSums·rounds 2 (coefficient w.old)) }
+    ensures { Lists w.new (RunningSums.rounds 2 (coefficient w.old)) }
 {
     one_round(w);
     one_round(w);
@@ -34,7 +34,7 @@ fn two_rounds(w: &mut [i64; 8])
 
 fn four_rounds(w: &mut [i64; 8])
     requires { Room 4 w.old }
-    ensures { Lists w.new (RunningSums·rounds 4 (coefficient w.old)) }
+    ensures { Lists w.new (RunningSums.rounds 4 (coefficient w.old)) }
 {
     two_rounds(w);
     two_rounds(w);
@@ -42,7 +42,7 @@ fn four_rounds(w: &mut [i64; 8])
 
 fn eight_rounds(w: &mut [i64; 8])
     requires { Room 8 w.old }
-    ensures { Lists w.new (RunningSums·rounds 8 (coefficient w.old)) }
+    ensures { Lists w.new (RunningSums.rounds 8 (coefficient w.old)) }
 {
     four_rounds(w);
     four_rounds(w);
@@ -50,8 +50,8 @@ fn eight_rounds(w: &mut [i64; 8])
 
 // So many rounds, at most 9: those of a half-sum at n = 7, and one more for K.
 pub fn rounds(count: usize, w: &mut [i64; 8])
-    requires { (count ≤ gradeMax + 2) × (Weights (7 * sizeMax) w.old) }
-    ensures { Lists w.new (RunningSums·rounds count (coefficient w.old)) }
+    requires { (count ≤ grade_max + 2) × (Weights (7 * size_max) w.old) }
+    ensures { Lists w.new (RunningSums.rounds count (coefficient w.old)) }
 {
     let mut due = count;
     if 8 <= due {

@@ -24,9 +24,9 @@ cancel y z = lets (y ∷ z ∷ []) (λ ρ v. simp (v 0, v 1, terms) (solve ρ _ 
 overshoot : (x z : ℤ) → x -ℤ (x +ℤ z) ≡ neg_ℤ z
 overshoot x z = lets (x ∷ z ∷ []) (λ ρ v. simp (v 0, v 1, terms) (solve ρ _ _ tt))
 
-⊖-cases : (P : ℤ → Type 0) (a b : ℕ) → ((n : ℕ) → a ≡ b + n → P (pos n)) → ((n : ℕ) → b ≡ a + suc n → P (negsuc n)) → P (a ⊖ b)
+⊖_cases : (P : ℤ → Type 0) (a b : ℕ) → ((n : ℕ) → a ≡ b + n → P (pos n)) → ((n : ℕ) → b ≡ a + suc n → P (negsuc n)) → P (a ⊖ b)
 unfolding ◌⊖◌
-⊖-cases P a b above below = go (dec_le b a)
+⊖_cases P a b above below = go (dec_le b a)
   where
     go : Dec (b ≤ a) → P (a ⊖ b)
     go (yes h) =
@@ -38,19 +38,19 @@ unfolding ◌⊖◌
 
 -- ---- every number is a difference
 
-pub as-⊖ : (z : ℤ) → z ≡ up z ⊖ dn z
-as-⊖ (pos n) = ⊖-cases (λ z. pos n ≡ z) n 0 (λ k e. ap pos (omega arith)) (λ k e. absurd (omega arith))
-as-⊖ (negsuc n) = ⊖-cases (λ z. negsuc n ≡ z) 0 (suc n) (λ k e. absurd (omega arith)) (λ k e. ap negsuc (omega arith))
+pub as_⊖ : (z : ℤ) → z ≡ up z ⊖ dn z
+as_⊖ (pos n) = ⊖_cases (λ z. pos n ≡ z) n 0 (λ k e. ap pos (omega arith)) (λ k e. absurd (omega arith))
+as_⊖ (negsuc n) = ⊖_cases (λ z. negsuc n ≡ z) 0 (suc n) (λ k e. absurd (omega arith)) (λ k e. ap negsuc (omega arith))
 
 pub pos-⊖ : (n : ℕ) → pos n ≡ n ⊖ 0
-pos-⊖ n = as-⊖ (pos n)
+pos-⊖ n = as_⊖ (pos n)
 
-pub minus-⊖ : (a b : ℕ) → pos a -ℤ pos b ≡ a ⊖ b
+pub minus_⊖ : (a b : ℕ) → pos a -ℤ pos b ≡ a ⊖ b
 unfolding ◌⊖◌
-minus-⊖ a b = refl
+minus_⊖ a b = refl
 
-pub negsuc-⊖ : (n : ℕ) → negsuc n ≡ 0 ⊖ suc n
-negsuc-⊖ n = as-⊖ (negsuc n)
+pub negsuc_⊖ : (n : ℕ) → negsuc n ≡ 0 ⊖ suc n
+negsuc_⊖ n = as_⊖ (negsuc n)
 
 -- ---- operations on differences
 
@@ -77,7 +77,7 @@ unfolding ◌⊖◌
 
 -- its size: one of the two is 0
 pub ⊖-size : (a b : ℕ) → nat_abs (a ⊖ b) ≡ (a - b) + (b - a)
-⊖-size a b = ⊖-cases (λ z. nat_abs z ≡ (a - b) + (b - a)) a b (λ n e. omega arith) (λ n e. omega arith)
+⊖-size a b = ⊖_cases (λ z. nat_abs z ≡ (a - b) + (b - a)) a b (λ n e. omega arith) (λ n e. omega arith)
 
 -- ---- equations and orders of differences
 
@@ -86,9 +86,9 @@ pairs : (P : ℤ → ℤ → Type 0) (a b c d : ℕ) →
     ((n k : ℕ) → a ≡ b + n → c ≡ d + k → P (pos n) (pos k)) → ((n k : ℕ) → a ≡ b + n → d ≡ c + suc k → P (pos n) (negsuc k)) →
     ((n k : ℕ) → b ≡ a + suc n → c ≡ d + k → P (negsuc n) (pos k)) → ((n k : ℕ) → b ≡ a + suc n → d ≡ c + suc k → P (negsuc n) (negsuc k)) →
     P (a ⊖ b) (c ⊖ d)
-pairs P a b c d pp pn np nn = ⊖-cases (λ x. P x (c ⊖ d)) a b
-    (λ n e. ⊖-cases (λ y. P (pos n) y) c d (λ k f. pp n k e f) (λ k f. pn n k e f))
-    (λ n e. ⊖-cases (λ y. P (negsuc n) y) c d (λ k f. np n k e f) (λ k f. nn n k e f))
+pairs P a b c d pp pn np nn = ⊖_cases (λ x. P x (c ⊖ d)) a b
+    (λ n e. ⊖_cases (λ y. P (pos n) y) c d (λ k f. pp n k e f) (λ k f. pn n k e f))
+    (λ n e. ⊖_cases (λ y. P (negsuc n) y) c d (λ k f. np n k e f) (λ k f. nn n k e f))
 
 pub ⊖-≡ : (a b c d : ℕ) → (a ⊖ b ≡ c ⊖ d) ↔ (a + d ≡ c + b)
 ⊖-≡ a b c d = pairs (λ x y. (x ≡ y) ↔ (a + d ≡ c + b)) a b c d
@@ -104,4 +104,4 @@ pub ⊖-< : (a b c d : ℕ) → ((a ⊖ b) <ℤ (c ⊖ d)) ↔ (a + d < c + b)
     (λ n k e f. (λ h. omega arith, λ h. lt_z_yes tt))
     (λ n k e f. (λ h. omega (arith, ltb→lt k n h.lt), λ h. lt_z_yes (lt→ltb k n (omega arith))))
 
-pub ruleset differences = (⊖-+, ⊖-*, ⊖-neg, ⊖-size, pos-⊖, negsuc-⊖, ⊖-≡, ⊖-<)
+pub ruleset differences = (⊖-+, ⊖-*, ⊖-neg, ⊖-size, pos-⊖, negsuc_⊖, ⊖-≡, ⊖-<)

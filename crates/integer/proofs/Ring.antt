@@ -8,7 +8,7 @@ use lib.Dec.{T, eqb, eqb→eq}
 use lib.ListN.{get_or}
 use lib.IntN.{ℤ, pos, negsuc, neg_ℤ, one, pow, ◌+ℤ◌, ◌*ℤ◌, +ℤ_assoc, +ℤ_idl, +ℤ_idr, -ℤ-+ℤ_cancel, zero-*ℤ, *ℤ-zero, *ℤ-one}
 use native.Mathlib.Nat.{zero-add, add-zero, add-suc, suc-add}
-use Rattle.integer.proofs.Laws.{+ℤ-left-comm, *ℤ-distrib, *ℤ-distrib-right, *ℤ-assoc, *ℤ-interchange, neg-*ℤ, one-*ℤ}
+use Rattle.integer.proofs.Laws.{+ℤ-left_comm, *ℤ_distrib, *ℤ_distrib_right, *ℤ_assoc, *ℤ_interchange, neg-*ℤ, one-*ℤ}
 
 -- ---- terms over numbered variables, and their values
 
@@ -90,17 +90,17 @@ zeros ((negsuc n · es) ∷ ts) = false
 
 -- ---- each step keeps the value
 
-pow-+ : (x : ℤ) (e f : ℕ) → pow x (e + f) ≡ pow x e *ℤ pow x f
+pow_+ : (x : ℤ) (e f : ℕ) → pow x (e + f) ≡ pow x e *ℤ pow x f
 unfolding pow
-pow-+ x e zero = rw add-zero (sym (*ℤ-one (pow x e)))
-pow-+ x e (suc f) = rw add-suc (ap (λ y. y *ℤ x) (pow-+ x e f) ∙ *ℤ-assoc (pow x e) (pow x f) x)
+pow_+ x e zero = rw add-zero (sym (*ℤ-one (pow x e)))
+pow_+ x e (suc f) = rw add-suc (ap (λ y. y *ℤ x) (pow_+ x e f) ∙ *ℤ_assoc (pow x e) (pow x f) x)
 
 powers-joined : (ρ : ℕ → ℤ) (i : ℕ) (es fs : List ℕ) → powers ρ i (joined es fs) ≡ powers ρ i es *ℤ powers ρ i fs
 unfolding powers
 powers-joined ρ i [] fs = sym (one-*ℤ (powers ρ i fs))
 powers-joined ρ i (e ∷ es) [] = sym (*ℤ-one (powers ρ i (e ∷ es)))
-powers-joined ρ i (e ∷ es) (f ∷ fs) = ap₂ (λ x y. x *ℤ y) (pow-+ (ρ i) e f) (powers-joined ρ (suc i) es fs) ∙
-    *ℤ-interchange (pow (ρ i) e) (pow (ρ i) f) (powers ρ (suc i) es) (powers ρ (suc i) fs)
+powers-joined ρ i (e ∷ es) (f ∷ fs) = ap₂ (λ x y. x *ℤ y) (pow_+ (ρ i) e f) (powers-joined ρ (suc i) es fs) ∙
+    *ℤ_interchange (pow (ρ i) e) (pow (ρ i) f) (powers ρ (suc i) es) (powers ρ (suc i) fs)
 
 same→eq : (es fs : List ℕ) → T (same es fs) → es ≡ fs
 same→eq [] [] t = refl
@@ -119,9 +119,9 @@ insert-value ρ (c · es) ((d · fs) ∷ ts) = go (same es fs) (same→eq es fs)
   where
     go : (b : Bool) → (T b → es ≡ fs) → total ρ (insert (c · es) ts) ≡ weigh ρ (c · es) +ℤ total ρ ts →
         total ρ (cond b (((c +ℤ d) · es) ∷ ts) ((d · fs) ∷ insert (c · es) ts)) ≡ weigh ρ (c · es) +ℤ (weigh ρ (d · fs) +ℤ total ρ ts)
-    go true h k = rw (← h tt) (ap (λ x. x +ℤ total ρ ts) (*ℤ-distrib-right c d (powers ρ zero es)) ∙
+    go true h k = rw (← h tt) (ap (λ x. x +ℤ total ρ ts) (*ℤ_distrib_right c d (powers ρ zero es)) ∙
         +ℤ_assoc (c *ℤ powers ρ zero es) (d *ℤ powers ρ zero es) (total ρ ts))
-    go false h k = ap (λ x. d *ℤ powers ρ zero fs +ℤ x) k ∙ +ℤ-left-comm (d *ℤ powers ρ zero fs) (c *ℤ powers ρ zero es) (total ρ ts)
+    go false h k = ap (λ x. d *ℤ powers ρ zero fs +ℤ x) k ∙ +ℤ-left_comm (d *ℤ powers ρ zero fs) (c *ℤ powers ρ zero es) (total ρ ts)
 
 add-value : (ρ : ℕ → ℤ) (ts us : List Monomial) → total ρ (add ts us) ≡ total ρ ts +ℤ total ρ us
 unfolding total
@@ -132,15 +132,15 @@ times-value : (ρ : ℕ → ℤ) (t : Monomial) (ts : List Monomial) → total �
 unfolding total weigh
 times-value ρ (c · es) [] = sym (*ℤ-zero (weigh ρ (c · es)))
 times-value ρ (c · es) ((d · fs) ∷ ts) =
-    ap₂ (λ x y. x +ℤ y) (ap (λ x. (c *ℤ d) *ℤ x) (powers-joined ρ zero es fs) ∙ *ℤ-interchange c d (powers ρ zero es) (powers ρ zero fs))
+    ap₂ (λ x y. x +ℤ y) (ap (λ x. (c *ℤ d) *ℤ x) (powers-joined ρ zero es fs) ∙ *ℤ_interchange c d (powers ρ zero es) (powers ρ zero fs))
     (times-value ρ (c · es) ts) ∙
-    sym (*ℤ-distrib (weigh ρ (c · es)) (weigh ρ (d · fs)) (total ρ ts))
+    sym (*ℤ_distrib (weigh ρ (c · es)) (weigh ρ (d · fs)) (total ρ ts))
 
 multiply-value : (ρ : ℕ → ℤ) (ts us : List Monomial) → total ρ (multiply ts us) ≡ total ρ ts *ℤ total ρ us
 unfolding total
 multiply-value ρ [] us = sym (zero-*ℤ (total ρ us))
 multiply-value ρ (t ∷ ts) us = add-value ρ (times t us) (multiply ts us) ∙ ap₂ (λ x y. x +ℤ y) (times-value ρ t us) (multiply-value ρ ts us) ∙
-    sym (*ℤ-distrib-right (weigh ρ t) (total ρ ts) (total ρ us))
+    sym (*ℤ_distrib_right (weigh ρ t) (total ρ ts) (total ρ us))
 
 single-value : (ρ : ℕ → ℤ) (i k : ℕ) → powers ρ k (single i) ≡ ρ (k + i)
 unfolding powers pow
@@ -182,24 +182,24 @@ unfolding value
 lets xs k = k (λ i. get_or xs i (pos zero)) (λ i. refl)
 
 -- and so do these turn a literal of either sign, a sum, a product and a negation into terms
-pub as-lit : (ρ : ℕ → ℤ) (n : ℕ) → pos n ≡ value ρ (lit n)
+pub as_lit : (ρ : ℕ → ℤ) (n : ℕ) → pos n ≡ value ρ (lit n)
 unfolding value
-as-lit ρ n = refl
+as_lit ρ n = refl
 
-pub as-minus : (ρ : ℕ → ℤ) (n : ℕ) → negsuc n ≡ value ρ (⊟ lit (suc n))
+pub as_minus : (ρ : ℕ → ℤ) (n : ℕ) → negsuc n ≡ value ρ (⊟ lit (suc n))
 unfolding value
-as-minus ρ n = refl
+as_minus ρ n = refl
 
-pub as-sum : (ρ : ℕ → ℤ) (a b : Term) → value ρ a +ℤ value ρ b ≡ value ρ (a ⊞ b)
+pub as_sum : (ρ : ℕ → ℤ) (a b : Term) → value ρ a +ℤ value ρ b ≡ value ρ (a ⊞ b)
 unfolding value
-as-sum ρ a b = refl
+as_sum ρ a b = refl
 
-pub as-product : (ρ : ℕ → ℤ) (a b : Term) → value ρ a *ℤ value ρ b ≡ value ρ (a ⊠ b)
+pub as_product : (ρ : ℕ → ℤ) (a b : Term) → value ρ a *ℤ value ρ b ≡ value ρ (a ⊠ b)
 unfolding value
-as-product ρ a b = refl
+as_product ρ a b = refl
 
-pub as-negation : (ρ : ℕ → ℤ) (a : Term) → neg_ℤ (value ρ a) ≡ value ρ (⊟ a)
+pub as_negation : (ρ : ℕ → ℤ) (a : Term) → neg_ℤ (value ρ a) ≡ value ρ (⊟ a)
 unfolding value
-as-negation ρ a = refl
+as_negation ρ a = refl
 
-pub ruleset terms = (as-sum, as-product, as-negation)
+pub ruleset terms = (as_sum, as_product, as_negation)

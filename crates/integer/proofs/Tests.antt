@@ -38,26 +38,26 @@ equal→eq (pos a) (negsuc b) e = absurd (true≢false (sym e))
 equal→eq (negsuc a) (pos b) e = absurd (true≢false (sym e))
 equal→eq (negsuc a) (negsuc b) e = ap negsuc (eqb-true a b e)
 
-pub equal-self : (x : ℤ) → equal x x ≡ true
-equal-self (pos a) = eq-eqb a a refl
-equal-self (negsuc a) = eq-eqb a a refl
+pub equal_self : (x : ℤ) → equal x x ≡ true
+equal_self (pos a) = eq-eqb a a refl
+equal_self (negsuc a) = eq-eqb a a refl
 
 -- two numbers that fit are equal where their bits are
 pub same_bits : (w : Width) (x y : ℤ) → SFits w x → SFits w y → eqb (of_z w x) (of_z w y) ≡ equal x y
 same_bits w x y f g = go (ℤ_discrete x y)
   where
     go : Dec (x ≡ y) → eqb (of_z w x) (of_z w y) ≡ equal x y
-    go (yes e) = rw e (eq-eqb (of_z w y) (of_z w y) refl ∙ sym (equal-self y))
+    go (yes e) = rw e (eq-eqb (of_z w y) (of_z w y) refl ∙ sym (equal_self y))
     go (no e) = ne_eqb (of_z w x) (of_z w y) (λ q. e (sym (to_z-of_z f) ∙ ap (to_z w) q ∙ to_z-of_z g)) ∙ sym (not_yes (equal x y) (λ q. e (equal→eq x y q)))
 
 -- ---- two lists, place by place
 
 module _ {A : Type 0} (test : A → A → Bool) where
-  pub pairs-at : (absent : A) (xs ys : List A) → pairwise test xs ys ≡ true → (k : ℕ) → k < length xs → test (get_or xs k absent) (get_or ys k absent) ≡ true
-  pairs-at absent [] ys e k h = absurd (omega arith)
-  pairs-at absent (x ∷ xs) [] e k h = absurd (true≢false (sym e))
-  pairs-at absent (x ∷ xs) (y ∷ ys) e zero h = both_first (test x y) _ e
-  pairs-at absent (x ∷ xs) (y ∷ ys) e (suc k) h = pairs-at absent xs ys (both-second (test x y) _ e) k (omega arith)
+  pub pairs_at : (absent : A) (xs ys : List A) → pairwise test xs ys ≡ true → (k : ℕ) → k < length xs → test (get_or xs k absent) (get_or ys k absent) ≡ true
+  pairs_at absent [] ys e k h = absurd (omega arith)
+  pairs_at absent (x ∷ xs) [] e k h = absurd (true≢false (sym e))
+  pairs_at absent (x ∷ xs) (y ∷ ys) e zero h = both_first (test x y) _ e
+  pairs_at absent (x ∷ xs) (y ∷ ys) e (suc k) h = pairs_at absent xs ys (both-second (test x y) _ e) k (omega arith)
 
   pub pairs-counts : (xs ys : List A) → pairwise test xs ys ≡ true → length xs ≡ length ys
   pairs-counts [] [] e = refl
@@ -72,11 +72,11 @@ module _ {A : Type 0} (test : A → A → Bool) where
   pairs-all absent (x ∷ xs) [] n h = absurd (omega arith)
   pairs-all absent (x ∷ xs) (y ∷ ys) n h = both (h zero (omega arith)) (pairs-all absent xs ys (omega arith) (λ k b. h (suc k) (omega arith)))
 
-  pub pairs-unlike : (xs ys : List A) → (length xs ≡ length ys → ⊥) → pairwise test xs ys ≡ false
-  pairs-unlike xs ys h = not_yes (pairwise test xs ys) (λ e. h (pairs-counts xs ys e))
+  pub pairs_unlike : (xs ys : List A) → (length xs ≡ length ys → ⊥) → pairwise test xs ys ≡ false
+  pairs_unlike xs ys h = not_yes (pairwise test xs ys) (λ e. h (pairs-counts xs ys e))
 
-  pub pairs-fail : (absent : A) (xs ys : List A) (k : ℕ) → k < length xs → test (get_or xs k absent) (get_or ys k absent) ≡ false → pairwise test xs ys ≡ false
-  pairs-fail absent xs ys k h fails = not_yes (pairwise test xs ys) (λ e. true≢false (sym (pairs-at absent xs ys e k h) ∙ fails))
+  pub pairs_fail : (absent : A) (xs ys : List A) (k : ℕ) → k < length xs → test (get_or xs k absent) (get_or ys k absent) ≡ false → pairwise test xs ys ≡ false
+  pairs_fail absent xs ys k h fails = not_yes (pairwise test xs ys) (λ e. true≢false (sym (pairs_at absent xs ys e k h) ∙ fails))
 
   -- by a test that only equals pass, the lists are equal
   pub pairs-equal : ((x y : A) → test x y ≡ true → x ≡ y) → (xs ys : List A) → pairwise test xs ys ≡ true → xs ≡ ys
@@ -86,9 +86,9 @@ module _ {A : Type 0} (test : A → A → Bool) where
   pairs-equal only (x ∷ xs) (y ∷ ys) e =
       ap₂ (λ v vs. v ∷ vs) (only x y (both_first (test x y) _ e)) (pairs-equal only xs ys (both-second (test x y) _ e))
 
-  pub pairs-itself : ((x : A) → test x x ≡ true) → (xs : List A) → pairwise test xs xs ≡ true
-  pairs-itself self [] = refl
-  pairs-itself self (x ∷ xs) = both (self x) (pairs-itself self xs)
+  pub pairs_itself : ((x : A) → test x x ≡ true) → (xs : List A) → pairwise test xs xs ≡ true
+  pairs_itself self [] = refl
+  pairs_itself self (x ∷ xs) = both (self x) (pairs_itself self xs)
 
 -- ---- the first that passes
 
@@ -124,14 +124,14 @@ module _ {A : Type 0} (test : A → Bool) where
     none_passes [] e = tt
     none_passes (x ∷ xs) e = let p = none_first (test x) (told x) (first_of test told xs) e in (p.0, none_passes xs p.1)
 
-    pub no-first : (xs : List A) → NonePasses xs → first_of test told xs ≡ none
-    no-first [] q = refl
-    no-first (x ∷ xs) q = rw q.0 (no-first xs q.1)
+    pub no_first : (xs : List A) → NonePasses xs → first_of test told xs ≡ none
+    no_first [] q = refl
+    no_first (x ∷ xs) q = rw q.0 (no_first xs q.1)
 
-    pub firstOf-found : {y : B} (xs ys : List A) → first_of test told xs ≡ some y → first_of test told (xs ++ ys) ≡ some y
-    firstOf-found [] ys e = absurd (some-ne-none _ (sym e))
-    firstOf-found (x ∷ xs) ys e = some_first (test x) (told x) (first_of test told xs) (first_of test told (xs ++ ys)) (firstOf-found xs ys) e
+    pub first_of_found : {y : B} (xs ys : List A) → first_of test told xs ≡ some y → first_of test told (xs ++ ys) ≡ some y
+    first_of_found [] ys e = absurd (some-ne-none _ (sym e))
+    first_of_found (x ∷ xs) ys e = some_first (test x) (told x) (first_of test told xs) (first_of test told (xs ++ ys)) (first_of_found xs ys) e
 
-    pub firstOf-later : (xs ys : List A) → first_of test told xs ≡ none → first_of test told (xs ++ ys) ≡ first_of test told ys
-    firstOf-later [] ys e = refl
-    firstOf-later (x ∷ xs) ys e = let p = none_first (test x) (told x) (first_of test told xs) e in rw p.0 (firstOf-later xs ys p.1)
+    pub first_of_later : (xs ys : List A) → first_of test told xs ≡ none → first_of test told (xs ++ ys) ≡ first_of test told ys
+    first_of_later [] ys e = refl
+    first_of_later (x ∷ xs) ys e = let p = none_first (test x) (told x) (first_of test told xs) e in rw p.0 (first_of_later xs ys p.1)

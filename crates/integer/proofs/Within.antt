@@ -10,7 +10,7 @@ use mir.Val.{SFits, hbits, to_z, of_z}
 use mir.Facts.{to_z-of_z, sfits_widen}
 use Rattle.integer.specs.Sum.{sum}
 use Rattle.integer.specs.Within.{up, dn, Within}
-use Rattle.integer.proofs.Difference.{◌⊖◌, as-⊖, ⊖-≡, ⊖-+}
+use Rattle.integer.proofs.Difference.{◌⊖◌, as_⊖, ⊖-≡, ⊖-+}
 
 one-sign : (z : ℤ) → min (up z) (dn z) ≡ 0
 one-sign (pos n) = omega arith
@@ -18,10 +18,10 @@ one-sign (negsuc n) = omega arith
 
 -- a difference's parts, whatever naturals it is written by
 parts : (z : ℤ) (a b : ℕ) → z ≡ a ⊖ b → up z + b ≡ a + dn z
-parts z a b e = (⊖-≡ (up z) (dn z) a b).0 (sym (as-⊖ z) ∙ e)
+parts z a b e = (⊖-≡ (up z) (dn z) a b).0 (sym (as_⊖ z) ∙ e)
 
 add_parts : (x y : ℤ) → up (x +ℤ y) + (dn x + dn y) ≡ (up x + up y) + dn (x +ℤ y)
-add_parts x y = parts (x +ℤ y) (up x + up y) (dn x + dn y) (ap₂ (λ a b. a +ℤ b) (as-⊖ x) (as-⊖ y) ∙ ⊖-+ (up x) (dn x) (up y) (dn y))
+add_parts x y = parts (x +ℤ y) (up x + up y) (dn x + dn y) (ap₂ (λ a b. a +ℤ b) (as_⊖ x) (as_⊖ y) ∙ ⊖-+ (up x) (dn x) (up y) (dn y))
 
 pub within_more : {A B : ℕ} {z : ℤ} → A ≤ B → Within A z → Within B z
 within_more h w = record { hi = omega arith; lo = omega arith }
@@ -35,17 +35,17 @@ within-neg (pos (suc n)) w = record { hi = omega arith; lo = w.hi }
 within-neg (negsuc n) w = record { hi = w.lo; lo = omega arith }
 
 -- as a program writes it
-pub within-opposite : {B : ℕ} (z : ℤ) → Within B z → Within B (pos 0 -ℤ z)
-within-opposite z w = rw (+ℤ_idl (neg_ℤ z)) (within-neg z w)
+pub within_opposite : {B : ℕ} (z : ℤ) → Within B z → Within B (pos 0 -ℤ z)
+within_opposite z w = rw (+ℤ_idl (neg_ℤ z)) (within-neg z w)
 
 within-product : {A B : ℕ} (a b : ℕ) → a ≤ A → b ≤ B → Within (A * B) (pos (a * b))
 within-product a b h k = record { hi = mul-le-mul h k; lo = omega arith }
 
-pub within-mul : {A B : ℕ} (x y : ℤ) → Within A x → Within B y → Within (A * B) (x *ℤ y)
-within-mul (pos a) (pos b) v w = within-product a b v.hi w.hi
-within-mul (pos a) (negsuc b) v w = within-neg (pos (a * suc b)) (within-product a (suc b) v.hi w.lo)
-within-mul (negsuc a) (pos b) v w = within-neg (pos (suc a * b)) (within-product (suc a) b v.lo w.hi)
-within-mul (negsuc a) (negsuc b) v w = within-product (suc a) (suc b) v.lo w.lo
+pub within_mul : {A B : ℕ} (x y : ℤ) → Within A x → Within B y → Within (A * B) (x *ℤ y)
+within_mul (pos a) (pos b) v w = within-product a b v.hi w.hi
+within_mul (pos a) (negsuc b) v w = within-neg (pos (a * suc b)) (within-product a (suc b) v.hi w.lo)
+within_mul (negsuc a) (pos b) v w = within-neg (pos (suc a * b)) (within-product (suc a) b v.lo w.hi)
+within_mul (negsuc a) (negsuc b) v w = within-product (suc a) (suc b) v.lo w.lo
 
 pub within-fits : {B : ℕ} (w : Width) (z : ℤ) → B < 2 ^ hbits w → Within B z → SFits w z
 within-fits w (pos n) h v = record { sfits = omega (arith, v.hi) }
@@ -61,12 +61,12 @@ pub wide_is : (z : ℤ) → SFits w32 z → to_z w64 (of_z w64 (to_z w32 (of_z w
 wide_is z f = ap (λ y. to_z w64 (of_z w64 y)) (to_z-of_z f) ∙ to_z-of_z (sfits_widen tt f)
 
 -- what is computed, as it is held in 64 bits
-pub computed-is : {z y : ℤ} → z ≡ y → SFits w64 y → to_z w64 (of_z w64 z) ≡ y
-computed-is e f = ap (λ z. to_z w64 (of_z w64 z)) e ∙ to_z-of_z f
+pub computed_is : {z y : ℤ} → z ≡ y → SFits w64 y → to_z w64 (of_z w64 z) ≡ y
+computed_is e f = ap (λ z. to_z w64 (of_z w64 z)) e ∙ to_z-of_z f
 
 -- and the result of a call
-pub result-is : (z : ℤ) → mag z < 2 ^ 63 → to_z w64 (of_z w64 z) ≡ z
-result-is z h = to_z-of_z (record { sfits = h })
+pub result_is : (z : ℤ) → mag z < 2 ^ 63 → to_z w64 (of_z w64 z) ≡ z
+result_is z h = to_z-of_z (record { sfits = h })
 
 pub within-natural : (n : ℕ) → Within n (pos n)
 within-natural n = record { hi = omega arith; lo = omega arith }
@@ -79,13 +79,13 @@ pub size-within : {B : ℕ} (z : ℤ) → Within B z → nat_abs z ≤ B
 size-within (pos n) w = w.hi
 size-within (negsuc n) w = w.lo
 
-opposite-size : (n : ℕ) → nat_abs (neg_ℤ (pos n)) ≡ n
-opposite-size zero = refl
-opposite-size (suc n) = refl
+opposite_size : (n : ℕ) → nat_abs (neg_ℤ (pos n)) ≡ n
+opposite_size zero = refl
+opposite_size (suc n) = refl
 
 pub size-times : (n : ℕ) (z : ℤ) → nat_abs (pos n *ℤ z) ≡ n * nat_abs z
 size-times n (pos k) = refl
-size-times n (negsuc k) = opposite-size (n * suc k)
+size-times n (negsuc k) = opposite_size (n * suc k)
 
 -- a sum of terms, each bounded by its share of B
 unfoldable pub shares : ℕ → (ℕ → ℕ) → ℕ

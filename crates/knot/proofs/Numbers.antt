@@ -3,7 +3,7 @@ use mathlib.Core.Option.{Option, none, some}
 use mathlib.Core.Path.{◌≡◌, refl, sym, ◌∙◌, ap}
 use Prim.Native.Nat.{ℕ, zero, suc}
 use native.Mathlib.Omega.{arith}
-use Rattle.knot.specs.Machine.{number, refusalOf, Numbers}
+use Rattle.knot.specs.Machine.{number, refusal_of, Numbers}
 use Rattle.knot.specs.declared.table.Refusal.{Refusal}
 use Rattle.knot.specs.declared.table.Refusal.TheVariants as Refusals
 
@@ -24,7 +24,7 @@ numbers Refusals.Unlike = record { known = omega arith; is = refl }
 numbers Refusals.Multiplier = record { known = omega arith; is = refl }
 
 pub passed : {n : ℕ} {found : Option ℕ} → Numbers n found → n ≡ 0 → found ≡ none
-passed numbered e = sym numbered.is ∙ ap refusalOf e
+passed numbered e = sym numbered.is ∙ ap refusal_of e
 
 pub failed : {found : Option ℕ} (n : ℕ) → Numbers n found → (n ≡ 0 → ⊥) → found ≡ some n
 failed zero numbered d = absurd (d refl)

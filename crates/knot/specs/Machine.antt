@@ -1,7 +1,7 @@
 -- What the machine's knots, verdicts and reasons are in the model.
 use Rattle.std.specs.Prelude.{List, [], map, ◌≡◌, ℕ, zero, suc, ◌+◌, ◌≤◌, ◌<◌, length, take, get_or}
 use Rattle.std.proofs.Math.Option.{Option, none, some}
-use Rattle.rounding.specs.Limits.{knotsMax, gradeMax}
+use Rattle.rounding.specs.Limits.{knots_max, grade_max}
 use Rattle.scans.specs.Scan.{Scan}
 use Rattle.scans.specs.SizeRule.{Spot}
 use Rattle.knot.specs.declared.held.Knot.{Knot}
@@ -18,8 +18,8 @@ scan k = record { position = k.position; coefficients = take (k.grade + 1) k.coe
 
 -- an array of 8 coefficients, and a grade of 0 to 7
 pub record Graded (k : Knot) : Type 0 where
-  pub room : length k.coefficients ≡ gradeMax + 1
-  pub grade : k.grade ≤ gradeMax
+  pub room : length k.coefficients ≡ grade_max + 1
+  pub grade : k.grade ≤ grade_max
 
 -- the knot holds the scan
 pub record Holds (k : Knot) (s : Scan) : Type 0 where
@@ -27,22 +27,22 @@ pub record Holds (k : Knot) (s : Scan) : Type 0 where
   pub is : scan k ≡ s
 
 -- knot k of an array, and the scans of its first n knots
-abbrev pub knotIn : List Knot → ℕ → Knot
-knotIn knots k = get_or knots k (record { position = 0; grade = 0; coefficients = [] })
+abbrev pub knot_in : List Knot → ℕ → Knot
+knot_in knots k = get_or knots k (record { position = 0; grade = 0; coefficients = [] })
 
-abbrev pub scansIn : ℕ → List Knot → List Scan
-scansIn n knots = map scan (take n knots)
+abbrev pub scans_in : ℕ → List Knot → List Scan
+scans_in n knots = map scan (take n knots)
 
 -- the first n knots of an array of 129 are filled, each with a grade of 0 to 7
 pub record Filled (knots : List Knot) (n : ℕ) : Type 0 where
-  pub room : length knots ≡ knotsMax
-  pub count : n ≤ knotsMax
-  pub graded : (k : ℕ) → k < n → Graded (knotIn knots k)
+  pub room : length knots ≡ knots_max
+  pub count : n ≤ knots_max
+  pub graded : (k : ℕ) → k < n → Graded (knot_in knots k)
 
 -- the spot that a reason names
-abbrev pub spotIn : Reason → Option Spot
-spotIn Reasons.Nothing = none
-spotIn (Reasons.TooLarge s) = some (record { knot = s.knot; order = s.order; gap = s.gap })
+abbrev pub spot_in : Reason → Option Spot
+spot_in Reasons.Nothing = none
+spot_in (Reasons.TooLarge s) = some (record { knot = s.knot; order = s.order; gap = s.gap })
 
 -- the documents' number of each cause
 abbrev pub number : Refusal → ℕ
@@ -67,10 +67,10 @@ refusal Verdicts.Passed = none
 refusal (Verdicts.Refused r) = some (number r)
 
 -- the refusal that a number from 0 to 14 stands for; 0 is none
-abbrev pub refusalOf : ℕ → Option ℕ
-refusalOf zero = none
-refusalOf (suc n) = some (suc n)
+abbrev pub refusal_of : ℕ → Option ℕ
+refusal_of zero = none
+refusal_of (suc n) = some (suc n)
 
 pub record Numbers (n : ℕ) (found : Option ℕ) : Type 0 where
   pub known : n ≤ 14
-  pub is : refusalOf n ≡ found
+  pub is : refusal_of n ≡ found

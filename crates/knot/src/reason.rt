@@ -1,7 +1,7 @@
 // Why the size rule is broken: which product exceeds 2^28.
 ghost use Rattle.std.specs.Prelude.{[], ◌∷◌, ◌≡◌};
-ghost use Rattle.scans.specs.RefusalTable.{badSize, first};
-ghost use Rattle.knot.specs.Machine.{refusal, spotIn};
+ghost use Rattle.scans.specs.RefusalTable.{bad_size, first};
+ghost use Rattle.knot.specs.Machine.{refusal, spot_in};
 
 use crate::table::{Refusal, Verdict};
 
@@ -24,7 +24,7 @@ pub enum Reason {
 impl Reason {
     // 6 where a product is too large.
     pub fn verdict(self) -> Verdict
-        ensures { refusal result ≡ first (badSize (spotIn self) ∷ []) }
+        ensures { refusal result ≡ first (bad_size (spot_in self) ∷ []) }
     {
         match self {
             Reason::Nothing => Verdict::Passed,

@@ -1,8 +1,8 @@
 // The size rule, for one list and one gap.
 ghost use Rattle.std.specs.Prelude.{◌≡◌, ◌+◌, ◌≤◌, length};
-ghost use Rattle.rounding.specs.Limits.{gapMax, gradeMax};
-ghost use Rattle.scans.specs.SizeRule.{firstTooLarge, products};
-ghost use Rattle.knot.specs.Machine.{spotIn};
+ghost use Rattle.rounding.specs.Limits.{gap_max, grade_max};
+ghost use Rattle.scans.specs.SizeRule.{first_too_large, products};
+ghost use Rattle.knot.specs.Machine.{spot_in};
 
 use crate::limits::SIZE_MAX;
 use crate::reason::{Reason, Spot};
@@ -15,8 +15,8 @@ const LEAST: i64 = 0 - MOST;
 // What is too large of the list of knot k with the gap h: the first order j of which |C_j| × h^j exceeds 2^28. |C_j| is
 // not formed: C_j × h^j is compared on both sides of 0, and of the two comparisons the compiler makes one.
 pub fn list_reason(k: u32, h: u64, c: &[i32]) -> Reason
-    requires { (h ≤ gapMax) × (length c.now ≤ gradeMax + 1) }
-    ensures { spotIn result ≡ firstTooLarge (products k h c.now) }
+    requires { (h ≤ gap_max) × (length c.now ≤ grade_max + 1) }
+    ensures { spot_in result ≡ first_too_large (products k h c.now) }
 {
     let mut power: u64 = 1;
     let mut j = 0;

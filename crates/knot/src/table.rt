@@ -1,6 +1,6 @@
 // The refusal table: its causes, in its order, and each one's number.
 ghost use Rattle.std.specs.Prelude.{◌≡◌, ◌≤◌};
-ghost use Rattle.knot.specs.Machine.{Numbers, number as Machine·number, refusal};
+ghost use Rattle.knot.specs.Machine.{Numbers, number as number_of, refusal};
 
 #[derive(Drop)]
 pub enum Refusal {
@@ -36,7 +36,7 @@ pub enum Refusal {
 
 impl Refusal {
     pub fn number(self) -> u32
-        ensures { result ≡ Machine·number self }
+        ensures { result ≡ number_of self }
     {
         match self {
             Refusal::Form => 1,
@@ -59,7 +59,7 @@ impl Refusal {
     // The refusal of a number of the table.
     pub fn numbered(n: u32) -> Self
         requires { (1 ≤ n) × (n ≤ 14) }
-        ensures { Machine·number result ≡ n }
+        ensures { number_of result ≡ n }
     {
         match n {
             1 => Refusal::Form,

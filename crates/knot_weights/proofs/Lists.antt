@@ -20,11 +20,11 @@ pub record Replaced (w : List ℤ) (v f : ℕ → ℤ) (k : ℕ) : Type 0 where
   pub done : (j : ℕ) → j < k → coefficient w j ≡ f j
   pub left : (j : ℕ) → k ≤ j → j ≤ 7 → coefficient w j ≡ v j
 
-pub replaced-zeros : (f : ℕ → ℤ) → Replaced zeros (λ j. pos 0) f 0
-replaced-zeros f = record { count = refl; done = λ j h. absurd (omega arith); left = λ j h b. get_or-replicate 8 j (pos 0) (pos 0) (omega arith) }
+pub replaced_zeros : (f : ℕ → ℤ) → Replaced zeros (λ j. pos 0) f 0
+replaced_zeros f = record { count = refl; done = λ j h. absurd (omega arith); left = λ j h b. get_or-replicate 8 j (pos 0) (pos 0) (omega arith) }
 
-pub replaced-more : {w : List ℤ} {v f : ℕ → ℤ} {k : ℕ} (x : ℤ) → Replaced w v f k → k ≤ 7 → x ≡ f k → Replaced (set w k x) v f (k + 1)
-replaced-more {w} {v} {f} {k} x replaced h e = record {
+pub replaced_more : {w : List ℤ} {v f : ℕ → ℤ} {k : ℕ} (x : ℤ) → Replaced w v f k → k ≤ 7 → x ≡ f k → Replaced (set w k x) v f (k + 1)
+replaced_more {w} {v} {f} {k} x replaced h e = record {
   count = replaced.count ∙ sym (length-set w k x);
   done = λ j b. go j b (ℕ_discrete j k);
   left = λ j b c. get_or-set_other w k j x (pos 0) (omega arith) ∙ replaced.left j (omega arith) c;
@@ -34,8 +34,8 @@ replaced-more {w} {v} {f} {k} x replaced h e = record {
     go j b (yes z) = rw z (get_or-set_same w k x (pos 0) (omega (arith, replaced.count)) ∙ e)
     go j b (no z) = get_or-set_other w k j x (pos 0) z ∙ replaced.done j (omega arith)
 
-pub replaced-lists : {w : List ℤ} {v f : ℕ → ℤ} {k : ℕ} → Replaced w v f k → ((j : ℕ) → k ≤ j → j ≤ 7 → v j ≡ f j) → Lists w f
-replaced-lists {w} {v} {f} {k} replaced rest = record { count = replaced.count; entry = λ j h. go j h (dec_lt j k) }
+pub replaced_lists : {w : List ℤ} {v f : ℕ → ℤ} {k : ℕ} → Replaced w v f k → ((j : ℕ) → k ≤ j → j ≤ 7 → v j ≡ f j) → Lists w f
+replaced_lists {w} {v} {f} {k} replaced rest = record { count = replaced.count; entry = λ j h. go j h (dec_lt j k) }
   where
     go : (j : ℕ) → j ≤ 7 → Dec (j < k) → coefficient w j ≡ f j
     go j h (yes b) = replaced.done j b

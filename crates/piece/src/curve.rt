@@ -1,10 +1,10 @@
 // A piece at distance r from its left knot, in 1/256 step: value, in 1/65,536 count, and trend, in 1/65,536 count
 // per step.
 ghost use Rattle.std.specs.Prelude.{◌≡◌, ◌*◌, ◌≤◌};
-ghost use Rattle.rounding.specs.Piece.{piece, positionUnit};
+ghost use Rattle.rounding.specs.Piece.{piece, position_unit};
 ghost use Rattle.rounding.specs.Size.{Admitted};
-ghost use Rattle.rounding.specs.Trend.{trend as Trend·trend};
-ghost use Rattle.rounding.specs.Value.{value as Value·value};
+ghost use Rattle.rounding.specs.Trend;
+ghost use Rattle.rounding.specs.Value;
 
 use super::slope::{scaled_k, sum_k};
 use half_sum::{lower_step_3, lower_steps_1_and_2, steps_1_and_2};
@@ -15,8 +15,8 @@ use scaling::{Divisor, Fraction, scaled, scaled_times};
 // The value: a half-sum from each end. Each is a chain of scalings, and neither waits for the other: with step 3 of
 // both after step 2 of both they stand close together, and a machine works on both at once.
 pub fn value(h: u64, left: &[i32], right: &[i32], r: u64) -> i64
-    requires { (Admitted (piece h left.now right.now)) × (r ≤ positionUnit * h) }
-    ensures { result ≡ Value·value (piece h left.now right.now) r }
+    requires { (Admitted (piece h left.now right.now)) × (r ≤ position_unit * h) }
+    ensures { result ≡ Value.value (piece h left.now right.now) r }
 {
     let m = left.len() - 1;
     let n = right.len() - 1;
@@ -37,8 +37,8 @@ pub fn value(h: u64, left: &[i32], right: &[i32], r: u64) -> i64
 // The trend: Y1 − Y2 + Y3, divided by h, which is scaled by 256/D. Step 3 of Y1 and Y2 comes late, as in a value.
 // K comes when w' has been made of both ends' weights, since it uses their arrays up.
 pub fn trend(h: u64, left: &[i32], right: &[i32], r: u64) -> i64
-    requires { (Admitted (piece h left.now right.now)) × (r ≤ positionUnit * h) }
-    ensures { result ≡ Trend·trend (piece h left.now right.now) r }
+    requires { (Admitted (piece h left.now right.now)) × (r ≤ position_unit * h) }
+    ensures { result ≡ Trend.trend (piece h left.now right.now) r }
 {
     let m = left.len() - 1;
     let n = right.len() - 1;

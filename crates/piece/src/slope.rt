@@ -3,11 +3,11 @@ ghost use Rattle.std.specs.Prelude.{◌≡◌, ◌+◌, ◌*◌, ◌≤◌};
 ghost use Rattle.integer.specs.Within.{Within};
 ghost use Rattle.hermite.specs.HalfSum.{g};
 ghost use Rattle.hermite.specs.Polynomial.{coefficient};
-ghost use Rattle.hermite.specs.Slope.{sumK};
+ghost use Rattle.hermite.specs.Slope.{sum_k};
 ghost use Rattle.scaling.specs.Machine.{Complements};
 ghost use Rattle.knot_weights.specs.Machine.{Lists, Weights};
-ghost use Rattle.rounding.specs.Limits.{gradeMax, sizeMax};
-ghost use Rattle.rounding.specs.Trend.{scaledK};
+ghost use Rattle.rounding.specs.Limits.{grade_max, size_max};
+ghost use Rattle.rounding.specs.Trend.{scaled_k};
 
 use half_sum::{VALUE_UNIT, rounds};
 use scaling::{Fraction, scaled_times};
@@ -15,8 +15,8 @@ use scaling::{Fraction, scaled_times};
 // One of the two sums of K: n+1 times g_m of w against n+1. One round more than a half-sum has leaves g_0 to g_7
 // against n+1 in the array that the weights come in.
 pub fn sum_k(m: usize, n: usize, w: &mut [i64; 8]) -> i64
-    requires { (m ≤ gradeMax) × (n ≤ gradeMax) × (Weights sizeMax w.old) }
-    ensures { (result ≡ sumK m n (coefficient w.old))
+    requires { (m ≤ grade_max) × (n ≤ grade_max) × (Weights size_max w.old) }
+    ensures { (result ≡ sum_k m n (coefficient w.old))
         × (Lists w.new (g (n + 1) (coefficient w.old))) }
 {
     let next = n + 1;
@@ -27,8 +27,8 @@ pub fn sum_k(m: usize, n: usize, w: &mut [i64; 8]) -> i64
 // Y3: 65,536 × K, scaled by r/d m times, then by (d−r)/d n times. Each sum of K is at most 91,520 times the
 // greatest weight.
 pub fn scaled_k(m: usize, n: usize, s: Fraction, complement: Fraction, k: i64) -> i64
-    requires { (Complements s complement) × (Within (2 * (91520 * sizeMax)) k) }
-    ensures { result ≡ scaledK m n s.a s.d k }
+    requires { (Complements s complement) × (Within (2 * (91520 * size_max)) k) }
+    ensures { result ≡ scaled_k m n s.a s.d k }
 {
     let u = scaled_times(m, VALUE_UNIT * k, s);
     scaled_times(n, u, complement)

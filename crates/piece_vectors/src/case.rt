@@ -1,6 +1,6 @@
 // One case: its fields, and its answers on standard output.
 ghost use Rattle.std.specs.Prelude.{◌≡◌, ◌+◌, ◌<◌, length};
-ghost use Rattle.rounding.specs.Limits.{gradeMax};
+ghost use Rattle.rounding.specs.Limits.{grade_max};
 
 use super::admit::admitted;
 use super::number::number;
@@ -19,7 +19,7 @@ fn signed(word: u32) -> i32 {
 // The 8 coefficients from a word on.
 fn coefficients(bytes: &[u8], from: usize) -> [i32; COEFFICIENTS_MAX]
     requires { from < 20 }
-    ensures { gradeMax + 1 ≡ length result }
+    ensures { grade_max + 1 ≡ length result }
 {
     let mut c = [0i32; COEFFICIENTS_MAX];
     let mut j = 0;

@@ -9,23 +9,23 @@ use native.Mathlib.Omega.{arith}
 use lib.ListN.{length, take, drop, get_or, get_elem?}
 use lib.Seq.{length-take-le, get_or-take, get_or-drop}
 use Rattle.block.specs.Fields.{reading}
-use Rattle.block.specs.View.{everyNth}
-use Rattle.block.proofs.View.{every-nth}
+use Rattle.block.specs.View.{every_nth}
+use Rattle.block.proofs.View.{every_nth_lem}
 use Rattle.readings.specs.Machine.{strided}
 
 pub strided-length : (ws : List ℕ) (start stride count : ℕ) → length (strided ws start stride count) ≡ count
 strided-length ws start stride zero = refl
 strided-length ws start stride (suc count) = ap suc (strided-length ws (start + stride) stride count)
 
-pub strided-at : (ws : List ℕ) (start stride count i : ℕ) → i < count →
+pub strided_at : (ws : List ℕ) (start stride count i : ℕ) → i < count →
     get_elem? (strided ws start stride count) i ≡ some (reading (get_or ws (start + i * stride) 0))
-strided-at ws start stride zero i h = absurd (omega arith)
-strided-at ws start stride (suc count) zero h =
+strided_at ws start stride zero i h = absurd (omega arith)
+strided_at ws start stride (suc count) zero h =
     let here : start ≡ start + 0 * stride = omega arith in
     ap (λ a. some (reading (get_or ws a 0))) here
-strided-at ws start stride (suc count) (suc i) h =
+strided_at ws start stride (suc count) (suc i) h =
     let there : start + stride + i * stride ≡ start + suc i * stride = omega arith in
-    strided-at ws (start + stride) stride count i (omega arith) ∙ ap (λ a. some (reading (get_or ws a 0))) there
+    strided_at ws (start + stride) stride count i (omega arith) ∙ ap (λ a. some (reading (get_or ws a 0))) there
 
 pub strided-past : (ws : List ℕ) (start stride count i : ℕ) → count ≤ i → get_elem? (strided ws start stride count) i ≡ none
 strided-past ws start stride zero i h = refl
@@ -58,9 +58,9 @@ same-list (x ∷ l) (y ∷ m) h = ap₂ (λ a rest. a ∷ rest) (some_same (h 0)
         value d (some z) = z
 
 -- of `count` readings every n-th, rounded up
-pub strided-every : (ws : List ℕ) (start n count : ℕ) → 0 < n → count ≤ length (drop start ws) →
-    strided ws start n ((count + (n - 1)) / n) ≡ everyNth n (map reading (take count (drop start ws)))
-strided-every ws start n count h there = same-list _ _ (λ i. go i (dec_lt i ((count + (n - 1)) / n)))
+pub strided_every : (ws : List ℕ) (start n count : ℕ) → 0 < n → count ≤ length (drop start ws) →
+    strided ws start n ((count + (n - 1)) / n) ≡ every_nth n (map reading (take count (drop start ws)))
+strided_every ws start n count h there = same-list _ _ (λ i. go i (dec_lt i ((count + (n - 1)) / n)))
   where
     most : ℕ
     most = (count + (n - 1)) / n
@@ -71,15 +71,15 @@ strided-every ws start n count h there = same-list _ _ (λ i. go i (dec_lt i ((c
     long : length these ≡ count
     long = length-take-le count (drop start ws) there
 
-    go : (i : ℕ) → Dec (i < most) → get_elem? (strided ws start n most) i ≡ get_elem? (everyNth n (map reading these)) i
+    go : (i : ℕ) → Dec (i < most) → get_elem? (strided ws start n most) i ≡ get_elem? (every_nth n (map reading these)) i
     go i (yes l) =
         let inside : i * n < count = omega (arith, mul-le-mul_right n l, div-mul-le_self (count + (n - 1)) n) in
-        strided-at ws start n most i l ∙
-        sym (every-nth n (map reading these) i h ∙ read_at these (i * n) (omega (arith, long)) ∙
+        strided_at ws start n most i l ∙
+        sym (every_nth_lem n (map reading these) i h ∙ read_at these (i * n) (omega (arith, long)) ∙
         ap (λ w. some (reading w)) (get_or-take count (drop start ws) (i * n) 0 inside ∙ get_or-drop start ws (i * n) 0))
     go i (no l) =
         let over : count ≤ i * n = omega (arith, mul-le-mul_right n (at_least i l), lt-div-mul-add {a = count + (n - 1)} h) in
-        strided-past ws start n most i (at_least i l) ∙ sym (every-nth n (map reading these) i h ∙ read_past these (i * n) (omega (arith, long)))
+        strided-past ws start n most i (at_least i l) ∙ sym (every_nth_lem n (map reading these) i h ∙ read_past these (i * n) (omega (arith, long)))
       where
         at_least : (i : ℕ) → (i < most → ⊥) → most ≤ i
         at_least i d = omega arith

@@ -43,8 +43,8 @@ OwnV κs d = (B κs).own_val d (T'.lowered d ∷ [])
 abbrev pub Typed : View → Type 0
 Typed d = Holds (has_ty (T'.mir (named 0)) (T'.lowered d)) × WT (T'.lowered d)
 
-abbrev pub view-stays : Stay {n = 1} (plain B) yes
-view-stays = stay_none B yes
+abbrev pub view_stays : Stay {n = 1} (plain B) yes
+view_stays = stay_none B yes
 
 -- the slice
 abbrev pub Bytes : Lfts 1 → RattleType
@@ -56,32 +56,32 @@ val s = slice_val s.ref_ptr (length s.now)
 abbrev pub OwnS : Lfts 1 → Bor (List ℕ) → Fml
 OwnS κs s = (Bytes κs).own_val s (val s ∷ [])
 
-abbrev pub slice-stays : Stay {n = 1} (shr_slice_of (0 ∷ []) tt (plain (λ _. u8))) yes
-slice-stays = stay_none_slice (0 ∷ []) tt (plain (λ _. u8)) yes
+abbrev pub slice_stays : Stay {n = 1} (shr_slice_of (0 ∷ []) tt (plain (λ _. u8))) yes
+slice_stays = stay_none_slice (0 ∷ []) tt (plain (λ _. u8)) yes
 
 -- the number
-abbrev pub number-stays : Stay {n = 1} (plain (λ _. u32)) yes
-number-stays = stay_none (λ _. u32) yes
+abbrev pub number_stays : Stay {n = 1} (plain (λ _. u32)) yes
+number_stays = stay_none (λ _. u32) yes
 
 module _ {M : Type 1} {𝓤 : Ura M} (𝓛 : Logic 𝓤) where
-  pub view-goes : Goes 𝓛 1 (plain B) yes view-stays
-  view-goes = Goes-none 𝓛 1 B yes (λ κs x f. refl)
+  pub view_goes : Goes 𝓛 1 (plain B) yes view_stays
+  view_goes = Goes-none 𝓛 1 B yes (λ κs x f. refl)
 
-  pub slice-goes : Goes 𝓛 1 (shr_slice_of (0 ∷ []) tt (plain (λ _. u8))) yes slice-stays
-  slice-goes = Goes-none_slice 𝓛 1 (0 ∷ []) tt (plain (λ _. u8)) yes
+  pub slice_goes : Goes 𝓛 1 (shr_slice_of (0 ∷ []) tt (plain (λ _. u8))) yes slice_stays
+  slice_goes = Goes-none_slice 𝓛 1 (0 ∷ []) tt (plain (λ _. u8)) yes
 
-  pub number-goes : Goes 𝓛 1 (plain (λ _. u32)) yes number-stays
-  number-goes = Goes-none 𝓛 1 (λ _. u32) yes (λ κs x f. refl)
+  pub number_goes : Goes 𝓛 1 (plain (λ _. u32)) yes number_stays
+  number_goes = Goes-none 𝓛 1 (λ _. u32) yes (λ κs x f. refl)
 
 module _ {M : Type 1} {𝓤 : Ura M} (𝓛 : Logic 𝓤) (κs : Lfts 1) where
-  pub view-typed : (d : View) → Is (B κs) d (T'.lowered d ∷ []) → Typed d
-  view-typed d p = ((LL.lawful (D κs) (L κs) 𝓛).typed d _ p).0
+  pub view_typed : (d : View) → Is (B κs) d (T'.lowered d ∷ []) → Typed d
+  view_typed d p = ((LL.lawful (D κs) (L κs) 𝓛).typed d _ p).0
 
-  pub view-twice : (d : View) → ent 𝓤 (sem 𝓛 (OwnV κs d)) (sep 𝓤 (sem 𝓛 (OwnV κs d)) (sem 𝓛 (OwnV κs d)))
-  view-twice d = (LL.copy (D κs) (T'.the_copy (named_lft 1 0 tt κs)) 𝓛).twice d (T'.lowered d ∷ [])
+  pub view_twice : (d : View) → ent 𝓤 (sem 𝓛 (OwnV κs d)) (sep 𝓤 (sem 𝓛 (OwnV κs d)) (sem 𝓛 (OwnV κs d)))
+  view_twice d = (LL.copy (D κs) (T'.the_copy (named_lft 1 0 tt κs)) 𝓛).twice d (T'.lowered d ∷ [])
 
-  pub slice-typed : (s : Bor (List ℕ)) → Is (Bytes κs) s (val s ∷ []) → WT (val s)
-  slice-typed s p = ((shr_slice_Lawful 𝓛 (named 0) κs.0 u8).typed s (val s ∷ []) p).0.1
+  pub slice_typed : (s : Bor (List ℕ)) → Is (Bytes κs) s (val s ∷ []) → WT (val s)
+  slice_typed s p = ((shr_slice_Lawful 𝓛 (named 0) κs.0 u8).typed s (val s ∷ []) p).0.1
 
-  pub slice-twice : (s : Bor (List ℕ)) → ent 𝓤 (sem 𝓛 (OwnS κs s)) (sep 𝓤 (sem 𝓛 (OwnS κs s)) (sem 𝓛 (OwnS κs s)))
-  slice-twice s = (shr_slice_copy 𝓛 (named 0) κs.0 u8).twice s (val s ∷ [])
+  pub slice_twice : (s : Bor (List ℕ)) → ent 𝓤 (sem 𝓛 (OwnS κs s)) (sep 𝓤 (sem 𝓛 (OwnS κs s)) (sem 𝓛 (OwnS κs s)))
+  slice_twice s = (shr_slice_copy 𝓛 (named 0) κs.0 u8).twice s (val s ∷ [])

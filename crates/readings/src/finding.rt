@@ -4,9 +4,9 @@ ghost use Rattle.std.specs.Prelude.{◌≡◌, ◌<◌, length};
 ghost use Rattle.std.proofs.Math.ListN.{get_elem?};
 ghost use Rattle.scans.specs.RefusalTable.{first};
 ghost use Rattle.block.specs.Bytes.{words};
-ghost use Rattle.block.specs.Reading.{blockCauses, list_of};
-ghost use Rattle.block.specs.View.{readingsOf};
-ghost use Rattle.readings.specs.Machine.{Selects, Spans, readingShown, strided};
+ghost use Rattle.block.specs.Reading.{block_causes, list_of};
+ghost use Rattle.block.specs.View.{readings_of};
+ghost use Rattle.readings.specs.Machine.{Selects, Spans, reading_shown, strided};
 
 use knot::Refusal;
 use word::{edition, grade, load, reading};
@@ -21,8 +21,8 @@ struct Span {
 
 // Those of knot k of an accepted block. Knot by knot: the words of the knot, then its readings.
 fn span_of(block: &[u8], k: usize) -> Span
-    requires { (first (blockCauses block.now) ≡ none) × (k < length (list_of block.now)) }
-    ensures { Spans result (words block.now) (readingsOf block.now k) }
+    requires { (first (block_causes block.now) ≡ none) × (k < length (list_of block.now)) }
+    ensures { Spans result (words block.now) (readings_of block.now k) }
 {
     let edition = edition(load(block, 0));
     let mut j = 0;
@@ -95,7 +95,7 @@ pub enum Shown {
 
 // The i-th of those that stand from word `start` on at every `stride`-th word, `count` of them.
 pub fn shown_at(block: &[u8], start: u32, count: u32, stride: u32, i: u32) -> Shown
-    ensures { readingShown result ≡ get_elem? (strided (words block.now) start stride count) i }
+    ensures { reading_shown result ≡ get_elem? (strided (words block.now) start stride count) i }
 {
     if count <= i {
         return Shown::Past;

@@ -1,7 +1,7 @@
 // The workshop's view of a knot's readings: a struct over the block's bytes, and thin functions over it.
 ghost use Rattle.std.specs.Prelude.{◌≡◌, length};
 ghost use Rattle.std.proofs.Math.ListN.{get_elem?};
-ghost use Rattle.readings.specs.Machine.{Sees, Views, readingShown, shows};
+ghost use Rattle.readings.specs.Machine.{Sees, Views, reading_shown, shows};
 
 use crate::finding::{Shown, select, shown_at};
 
@@ -46,7 +46,7 @@ impl<'a> View<'a> {
 
     // The i-th reading that it shows, counted from 0, or that i is past the last.
     pub fn at(self, i: u32) -> Shown
-        ensures { readingShown result ≡ get_elem? (shows self.entry) i }
+        ensures { reading_shown result ≡ get_elem? (shows self.entry) i }
     {
         shown_at(self.bytes, self.start, self.count, self.stride, i)
     }

@@ -8,14 +8,14 @@ use mathlib.Core.List.{List, []}
 use mathlib.Core.Path.{◌≡◌}
 use Prim.Native.Nat.{ℕ}
 use lib.IntN.{ℤ}
-use Rattle.block.specs.Block.{plainEdition, block}
-use Rattle.block.specs.Reading.{editionOf}
-use Rattle.knot.specs.Machine.{spotIn}
+use Rattle.block.specs.Block.{plain_edition, block}
+use Rattle.block.specs.Reading.{edition_of}
+use Rattle.knot.specs.Machine.{spot_in}
 use Rattle.knot.specs.declared.reason.Reason.{Reason}
 use Rattle.calls.specs.Calls.{accepted, clear, append, correct, read, write, value, trend, total}
 use Rattle.calls.specs.Same.{same}
-use Rattle.calls.specs.Reason.{reasonFor, sumReason}
-use Rattle.reel.specs.Machine.{scans, Held, replyOf, Does, Combines}
+use Rattle.calls.specs.Reason.{reason_for, sum_reason}
+use Rattle.reel.specs.Machine.{scans, Held, reply_of, Does, Combines}
 use Rattle.reel.specs.declared.held.Reel.{Reel}
 use Rattle.reel.specs.declared.answer.Handed.{Handed}
 use Rattle.reel.proofs.held.Reel.empty.Reads as empty-reads
@@ -35,50 +35,50 @@ use Rattle.reel.proofs.held.Reel.read_reason.Reads as read-reason-reads
 use Rattle.reel.proofs.held.Reel.combine_reason.Reads as combine-reason-reads
 
 -- what a sequence begins with
-pub empty-is : (begin : Reel) → empty-reads.Post tt tt begin tt → (Held begin) × (scans begin ≡ [])
-empty-is begin post = post.0
+pub empty_is : (begin : Reel) → empty-reads.Post tt tt begin tt → (Held begin) × (scans begin ≡ [])
+empty_is begin post = post.0
 
 module _ (given : Reel) (handed : Handed) (held : Held given) where
-  pub clear-does : (clear_reads.Pre tt (given, tt) → clear_reads.Post tt (given, tt) handed (given, tt)) → Does clear given handed.answer handed.reel []
-  clear-does contract = contract held
+  pub clear_does : (clear_reads.Pre tt (given, tt) → clear_reads.Post tt (given, tt) handed (given, tt)) → Does clear given handed.answer handed.reel []
+  clear_does contract = contract held
 
-  pub append-does : (κs : Lfts 1) (x : ℕ) (C : Bor (List ℤ)) →
+  pub append_does : (κs : Lfts 1) (x : ℕ) (C : Bor (List ℤ)) →
       (append-reads.Pre κs (given, (x, (C, tt))) → append-reads.Post κs (given, (x, (C, tt))) handed (given, (x, (C, tt)))) →
       Does (append x C.now) given handed.answer handed.reel []
-  append-does κs x C contract = contract held
+  append_does κs x C contract = contract held
 
-  pub correct-does : (κs : Lfts 1) (k : ℕ) (C : Bor (List ℤ)) →
+  pub correct_does : (κs : Lfts 1) (k : ℕ) (C : Bor (List ℤ)) →
       (correct-reads.Pre κs (given, (k, (C, tt))) → correct-reads.Post κs (given, (k, (C, tt))) handed (given, (k, (C, tt)))) →
       Does (correct k C.now) given handed.answer handed.reel []
-  correct-does κs k C contract = contract held
+  correct_does κs k C contract = contract held
 
-  pub read-does : (κs : Lfts 1) (bytes : Bor (List ℕ)) →
+  pub read_does : (κs : Lfts 1) (bytes : Bor (List ℕ)) →
       (read-reads.Pre κs (given, (bytes, tt)) → read-reads.Post κs (given, (bytes, tt)) handed (given, (bytes, tt))) →
       Does (read bytes.now) given handed.answer handed.reel []
-  read-does κs bytes contract = (contract held).0
+  read_does κs bytes contract = (contract held).0
 
   -- an accepted block of edition 1 is the block of its list
   pub read_again : (κs : Lfts 1) (bytes : Bor (List ℕ)) →
       (read-reads.Pre κs (given, (bytes, tt)) → read-reads.Post κs (given, (bytes, tt)) handed (given, (bytes, tt))) →
-      replyOf handed.answer ≡ accepted → editionOf bytes.now ≡ plainEdition → block (scans handed.reel) ≡ bytes.now
+      reply_of handed.answer ≡ accepted → edition_of bytes.now ≡ plain_edition → block (scans handed.reel) ≡ bytes.now
   read_again κs bytes contract = (contract held).1
 
-  pub write-does : (κs : Lfts 1) (out after : Bor (List ℕ)) →
+  pub write_does : (κs : Lfts 1) (out after : Bor (List ℕ)) →
       (write-reads.Pre κs (given, (out, tt)) → write-reads.Post κs (given, (out, tt)) handed (given, (after, tt))) →
       Does (write out.now) given handed.answer handed.reel after.now
-  write-does κs out after contract = contract held
+  write_does κs out after contract = contract held
 
-  pub value-does : (x : ℕ) → (value-reads.Pre tt (given, (x, tt)) → value-reads.Post tt (given, (x, tt)) handed (given, (x, tt))) →
+  pub value_does : (x : ℕ) → (value-reads.Pre tt (given, (x, tt)) → value-reads.Post tt (given, (x, tt)) handed (given, (x, tt))) →
       Does (value x) given handed.answer handed.reel []
-  value-does x contract = contract held
+  value_does x contract = contract held
 
-  pub trend-does : (x : ℕ) → (trend-reads.Pre tt (given, (x, tt)) → trend-reads.Post tt (given, (x, tt)) handed (given, (x, tt))) →
+  pub trend_does : (x : ℕ) → (trend-reads.Pre tt (given, (x, tt)) → trend-reads.Post tt (given, (x, tt)) handed (given, (x, tt))) →
       Does (trend x) given handed.answer handed.reel []
-  trend-does x contract = contract held
+  trend_does x contract = contract held
 
-  pub total-does : (i j : ℕ) → (total-reads.Pre tt (given, (i, (j, tt))) → total-reads.Post tt (given, (i, (j, tt))) handed (given, (i, (j, tt)))) →
+  pub total_does : (i j : ℕ) → (total-reads.Pre tt (given, (i, (j, tt))) → total-reads.Post tt (given, (i, (j, tt))) handed (given, (i, (j, tt)))) →
       Does (total i j) given handed.answer handed.reel []
-  total-does i j contract = contract held
+  total_does i j contract = contract held
 
 -- and that of same, which is no call of a sequence, is that its yes or no is the model's
 pub same-says : (given other : Reel) (says : Bool) → Held given → Held other →
@@ -87,31 +87,31 @@ pub same-says : (given other : Reel) (says : Bool) → Held given → Held other
 same-says given other says held held-other contract = contract (held, held-other)
 
 -- and that of the sum, which is none either, is `Combines`
-pub combine-combines : (α β : ℤ) (given other : Reel) (handed : Handed) → Held given → Held other →
+pub combine_combines : (α β : ℤ) (given other : Reel) (handed : Handed) → Held given → Held other →
     (combine-reads.Pre tt (given, (α, (β, (other, tt)))) →
     combine-reads.Post tt (given, (α, (β, (other, tt)))) handed (given, (α, (β, (other, tt))))) →
     Combines α β given other handed.answer handed.reel
-combine-combines α β given other handed held held-other contract = contract (held, held-other)
+combine_combines α β given other handed held held-other contract = contract (held, held-other)
 
 -- and that of each question is that its reason is the model's
 module _ (given : Reel) (reason : Reason) (held : Held given) where
-  pub append-reasons : (κs : Lfts 1) (x : ℕ) (C : Bor (List ℤ)) →
+  pub append_reasons : (κs : Lfts 1) (x : ℕ) (C : Bor (List ℤ)) →
       (append-reason-reads.Pre κs (given, (x, (C, tt))) → append-reason-reads.Post κs (given, (x, (C, tt))) reason (given, (x, (C, tt)))) →
-      spotIn reason ≡ reasonFor (append x C.now) (scans given)
-  append-reasons κs x C contract = contract held
+      spot_in reason ≡ reason_for (append x C.now) (scans given)
+  append_reasons κs x C contract = contract held
 
-  pub correct-reasons : (κs : Lfts 1) (k : ℕ) (C : Bor (List ℤ)) →
+  pub correct_reasons : (κs : Lfts 1) (k : ℕ) (C : Bor (List ℤ)) →
       (correct-reason-reads.Pre κs (given, (k, (C, tt))) → correct-reason-reads.Post κs (given, (k, (C, tt))) reason (given, (k, (C, tt)))) →
-      spotIn reason ≡ reasonFor (correct k C.now) (scans given)
-  correct-reasons κs k C contract = contract held
+      spot_in reason ≡ reason_for (correct k C.now) (scans given)
+  correct_reasons κs k C contract = contract held
 
-  pub read-reasons : (κs : Lfts 1) (bytes : Bor (List ℕ)) →
+  pub read_reasons : (κs : Lfts 1) (bytes : Bor (List ℕ)) →
       (read-reason-reads.Pre κs (given, (bytes, tt)) → read-reason-reads.Post κs (given, (bytes, tt)) reason (given, (bytes, tt))) →
-      spotIn reason ≡ reasonFor (read bytes.now) (scans given)
-  read-reasons κs bytes contract = contract held
+      spot_in reason ≡ reason_for (read bytes.now) (scans given)
+  read_reasons κs bytes contract = contract held
 
-  pub combine-reasons : (α β : ℤ) (other : Reel) → Held other →
+  pub combine_reasons : (α β : ℤ) (other : Reel) → Held other →
       (combine-reason-reads.Pre tt (given, (α, (β, (other, tt)))) →
       combine-reason-reads.Post tt (given, (α, (β, (other, tt)))) reason (given, (α, (β, (other, tt))))) →
-      spotIn reason ≡ sumReason α β (scans given) (scans other)
-  combine-reasons α β other held-other contract = contract (held, held-other)
+      spot_in reason ≡ sum_reason α β (scans given) (scans other)
+  combine_reasons α β other held-other contract = contract (held, held-other)

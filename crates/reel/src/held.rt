@@ -1,16 +1,15 @@
 // The held reel: an empty one, the limits, and its calls. Each call takes the reel and hands back the reel it leaves.
 ghost use Rattle.std.specs.Prelude.{[], ◌≡◌, length};
-ghost use Rattle.rounding.specs.Limits.{gapMax, gradeMax, knotsMax, sizeMax};
-ghost use Rattle.scans.specs.RefusalTable.{first as RefusalTable·first};
+ghost use Rattle.rounding.specs.Limits.{gap_max, grade_max, knots_max, size_max};
+ghost use Rattle.scans.specs.RefusalTable;
 ghost use Rattle.knot.specs.Machine.{refusal};
-ghost use Rattle.block.specs.Block.{block, plainEdition};
-ghost use Rattle.block.specs.Reading.{editionOf};
-ghost use Rattle.calls.specs.Calls.{append as Calls·append, clear as Calls·clear, correct as Calls·correct};
-ghost use Rattle.calls.specs.Calls.{read as Calls·read, write as Calls·write, accepted, causes, position_of};
-ghost use Rattle.calls.specs.Calls.{total as Calls·total, trend as Calls·trend, value as Calls·value};
-ghost use Rattle.reel.specs.Machine.{Combines, Does, Held, replyOf, scans};
+ghost use Rattle.block.specs.Block.{block, plain_edition};
+ghost use Rattle.block.specs.Reading.{edition_of};
+ghost use Rattle.calls.specs.Calls;
+ghost use Rattle.calls.specs.Calls.{accepted, causes, position_of};
+ghost use Rattle.reel.specs.Machine.{Combines, Does, Held, reply_of, scans};
 ghost use Rattle.reel.specs.declared.answer.Answer.TheVariants as Answers;
-ghost use Rattle.calls.specs.Same.{same as Same·same};
+ghost use Rattle.calls.specs.Same;
 
 use crate::answer::{Answer, Handed};
 use crate::index::{before, inside};
@@ -36,8 +35,8 @@ impl Reel {
     // The reel of no knots. The constants are document 01's limits.
     pub fn empty() -> Self
         ensures held { (Held result) × (scans result ≡ []) }
-        ensures* fact { do ⌜ ((← (⟦Reel::KNOTS_MAX⟧).entry) ≡ knotsMax) × ((← (⟦Reel::GAP_MAX⟧).entry) ≡ gapMax) ⌝ }
-        ensures* fact_2 { do ⌜ ((← (⟦Reel::GRADE_MAX⟧).entry) ≡ gradeMax) × ((← (⟦Reel::SIZE_MAX⟧).entry) ≡ sizeMax) ⌝ }
+        ensures* fact { do ⌜ ((← (⟦Reel::KNOTS_MAX⟧).entry) ≡ knots_max) × ((← (⟦Reel::GAP_MAX⟧).entry) ≡ gap_max) ⌝ }
+        ensures* fact_2 { do ⌜ ((← (⟦Reel::GRADE_MAX⟧).entry) ≡ grade_max) × ((← (⟦Reel::SIZE_MAX⟧).entry) ≡ size_max) ⌝ }
     {
         let coefficients = [0i32; COEFFICIENTS_MAX];
         let free = Knot {
@@ -62,7 +61,7 @@ impl Reel {
     // The empty list.
     pub fn clear(mut self) -> Handed
         requires { Held self }
-        ensures { Does Calls·clear self result.answer result.reel [] }
+        ensures { Does Calls.clear self result.answer result.reel [] }
     {
         self.count = 0;
         Handed {
@@ -74,7 +73,7 @@ impl Reel {
     // The list with one knot more at its end.
     pub fn append(mut self, position: u32, coefficients: &[i32]) -> Handed
         requires { Held self }
-        ensures { Does (Calls·append position coefficients.now) self result.answer result.reel [] }
+        ensures { Does (Calls.append position coefficients.now) self result.answer result.reel [] }
     {
         let count = self.count;
         let last = before(count);
@@ -96,7 +95,7 @@ impl Reel {
     // Knot k with other coefficients.
     pub fn correct(mut self, k: u32, coefficients: &[i32]) -> Handed
         requires { Held self }
-        ensures { Does (Calls·correct k coefficients.now) self result.answer result.reel [] }
+        ensures { Does (Calls.correct k coefficients.now) self result.answer result.reel [] }
     {
         let at = inside(k as usize);
         let old = self.knots[at];
@@ -120,8 +119,8 @@ impl Reel {
     // The list of a block, or the number of its first fault. An accepted block of edition 1 is the block of its list.
     pub fn read(mut self, bytes: &[u8]) -> Handed
         requires { Held self }
-        ensures does { Does (Calls·read bytes.now) self result.answer result.reel [] }
-        ensures reel_value { replyOf result.answer ≡ accepted → editionOf bytes.now ≡ plainEdition →
+        ensures does { Does (Calls.read bytes.now) self result.answer result.reel [] }
+        ensures reel_value { reply_of result.answer ≡ accepted → edition_of bytes.now ≡ plain_edition →
             block (scans result.reel) ≡ bytes.now }
     {
         let contents = block_reader::read(bytes);
@@ -142,7 +141,7 @@ impl Reel {
     // stays as it was.
     pub fn write(self, out: &mut [u8]) -> Handed
         requires { Held self }
-        ensures { Does (Calls·write out.old) self result.answer result.reel out.new }
+        ensures { Does (Calls.write out.old) self result.answer result.reel out.new }
     {
         let knots = self.knots;
         let count = self.count;
@@ -159,7 +158,7 @@ impl Reel {
     // The verdict on a query position, between the first knot and the last.
     fn query_verdict(self, x: u32) -> Verdict
         requires { Held self }
-        ensures { refusal result ≡ RefusalTable·first (causes (Calls·value x) (scans self)) }
+        ensures { refusal result ≡ RefusalTable.first (causes (Calls.value x) (scans self)) }
     {
         let count = self.count;
         let end = before(count);
@@ -171,7 +170,7 @@ impl Reel {
     // The value at query position x, in 1/65,536 count.
     pub fn value(self, x: u32) -> Handed
         requires { Held self }
-        ensures { Does (Calls·value x) self result.answer result.reel [] }
+        ensures { Does (Calls.value x) self result.answer result.reel [] }
     {
         if let Verdict::Refused(cause) = self.query_verdict(x) {
             return self.refused(cause);
@@ -186,7 +185,7 @@ impl Reel {
     // The trend there, in 1/65,536 count per step. It refuses what value refuses.
     pub fn trend(self, x: u32) -> Handed
         requires { Held self }
-        ensures { Does (Calls·trend x) self result.answer result.reel [] }
+        ensures { Does (Calls.trend x) self result.answer result.reel [] }
     {
         if let Verdict::Refused(cause) = self.query_verdict(x) {
             return self.refused(cause);
@@ -201,7 +200,7 @@ impl Reel {
     // The total of pieces i to j − 1, in 1/720,720 of a count × step: 8, then 9. The reel's is from 0 to the last knot.
     pub fn total(self, i: u32, j: u32) -> Handed
         requires { Held self }
-        ensures { Does (Calls·total i j) self result.answer result.reel [] }
+        ensures { Does (Calls.total i j) self result.answer result.reel [] }
     {
         let count = self.count;
         if let Verdict::Refused(cause) = range_cause(count, i, j) {
@@ -217,7 +216,7 @@ impl Reel {
     // Whether two reels agree in their knot counts, positions, grades and all coefficients: the same curve data.
     pub fn same(self, other: Reel) -> bool
         requires { (Held self) × (Held other) }
-        ensures { result ≡ Same·same (scans self) (scans other) }
+        ensures { result ≡ Same.same (scans self) (scans other) }
     {
         let knots = self.knots;
         let others = other.knots;
@@ -256,7 +255,7 @@ impl Reel {
     // The position of knot k; 9 where there is no knot k.
     pub fn position(self, k: u32) -> Answer
         requires { Held self }
-        ensures { replyOf result ≡ position_of k (scans self) }
+        ensures { reply_of result ≡ position_of k (scans self) }
     {
         let at = k as usize;
         if self.count <= at {

@@ -1,6 +1,6 @@
 // Places of the array, for every index.
 ghost use Rattle.std.specs.Prelude.{◌≡◌, ◌-◌, min};
-ghost use Rattle.rounding.specs.Limits.{knotsMax};
+ghost use Rattle.rounding.specs.Limits.{knots_max};
 
 use knot::KNOTS_MAX;
 
@@ -13,7 +13,7 @@ pub fn before(k: usize) -> usize
 
 // Place k, and the last one where there is none.
 pub fn inside(k: usize) -> usize
-    ensures { result ≡ min k (knotsMax - 1) }
+    ensures { result ≡ min k (knots_max - 1) }
 {
     if k < KNOTS_MAX { k } else { KNOTS_MAX - 1 }
 }

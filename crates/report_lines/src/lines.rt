@@ -3,9 +3,9 @@ ghost use Rattle.std.proofs.Math.Option.{none};
 ghost use Rattle.std.specs.Prelude.{◌+◌, ◌≤◌, length};
 ghost use Rattle.text.specs.Text.{Put};
 ghost use Rattle.knot.specs.Machine.{number};
-ghost use Rattle.reel.specs.Machine.{Held, replyOf, scans};
-ghost use Rattle.report_lines.specs.Report.{piecesIn, pieceLines, refusedLine, reported, reportOf, reelText};
-ghost use Rattle.report_lines.specs.Machine.{Reports, linesMax, roomMax};
+ghost use Rattle.reel.specs.Machine.{Held, reply_of, scans};
+ghost use Rattle.report_lines.specs.Report.{pieces_in, piece_lines, refused_line, reported, report_of, reel_text};
+ghost use Rattle.report_lines.specs.Machine.{Reports, lines_max, room_max};
 
 use crate::fields::{put_answer, put_number, put_row};
 use crate::opened::open_block;
@@ -17,9 +17,9 @@ use text::put_bytes;
 
 // A line for each piece, of which there are at most 128.
 fn put_pieces(reel: Reel, out: &mut [u8]) -> usize
-    requires { (Held reel) × (linesMax ≤ length out.old) }
-    ensures put { Put out.old 0 (pieceLines (scans reel) (piecesIn (scans reel))) result out.new }
-    ensures upper_bound { result ≤ linesMax }
+    requires { (Held reel) × (lines_max ≤ length out.old) }
+    ensures put { Put out.old 0 (piece_lines (scans reel) (pieces_in (scans reel))) result out.new }
+    ensures upper_bound { result ≤ lines_max }
 {
     let count = reel.count();
     let mut at = 0;
@@ -35,7 +35,7 @@ fn put_pieces(reel: Reel, out: &mut [u8]) -> usize
 // The line of the reel.
 fn put_reel_line(out: &mut [u8], at: usize, pieces: u32, total: Answer) -> usize
     requires { at + 47 ≤ length out.old }
-    ensures put { Put out.old at (reelText pieces (replyOf total)) result out.new }
+    ensures put { Put out.old at (reel_text pieces (reply_of total)) result out.new }
     ensures upper_bound { result ≤ at + 47 }
 {
     let named = put_bytes(out, at, b"reel ");
@@ -45,9 +45,9 @@ fn put_reel_line(out: &mut [u8], at: usize, pieces: u32, total: Answer) -> usize
 
 // All lines of a reel of two knots or more.
 fn put_reel(reel: Reel, out: &mut [u8]) -> usize
-    requires { (Held reel) × (2 ≤ length (scans reel)) × (roomMax ≤ length out.old) }
+    requires { (Held reel) × (2 ≤ length (scans reel)) × (room_max ≤ length out.old) }
     ensures put { Put out.old 0 (reported none (scans reel)) result out.new }
-    ensures upper_bound { result ≤ roomMax }
+    ensures upper_bound { result ≤ room_max }
 {
     let at = put_pieces(reel, out);
     let pieces = reel.count() - 1;
@@ -59,7 +59,7 @@ fn put_reel(reel: Reel, out: &mut [u8]) -> usize
 // The one line of a refusal.
 fn put_refused(out: &mut [u8], cause: Refusal) -> usize
     requires { 29 ≤ length out.old }
-    ensures put { Put out.old 0 (refusedLine (number cause)) result out.new }
+    ensures put { Put out.old 0 (refused_line (number cause)) result out.new }
     ensures upper_bound { result ≤ 29 }
 {
     let named = put_bytes(out, 0, b"refused ");
@@ -68,9 +68,9 @@ fn put_refused(out: &mut [u8], cause: Refusal) -> usize
 
 // The report, from the start of a lent room on.
 fn put_report(bytes: &[u8], out: &mut [u8]) -> usize
-    requires { roomMax ≤ length out.old }
-    ensures put { Put out.old 0 (reportOf bytes.now) result out.new }
-    ensures upper_bound { result ≤ roomMax }
+    requires { room_max ≤ length out.old }
+    ensures put { Put out.old 0 (report_of bytes.now) result out.new }
+    ensures upper_bound { result ≤ room_max }
 {
     let opened = open_block(bytes);
     let verdict = opened.verdict;

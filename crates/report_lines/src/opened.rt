@@ -1,9 +1,9 @@
 // The reel of a block, or why there is no report of it.
 ghost use Rattle.std.specs.Prelude.{[], ◌∷◌, ◌≡◌};
-ghost use Rattle.scans.specs.RefusalTable.{first, tooFew};
+ghost use Rattle.scans.specs.RefusalTable.{first, too_few};
 ghost use Rattle.knot.specs.Machine.{refusal};
-ghost use Rattle.reel.specs.Machine.{replyOf};
-ghost use Rattle.report_lines.specs.Machine.{Opens, refusalIn};
+ghost use Rattle.reel.specs.Machine.{reply_of};
+ghost use Rattle.report_lines.specs.Machine.{Opens, refusal_in};
 
 use block::BLOCK_MAX;
 use first_cause::KNOTS_MIN;
@@ -19,7 +19,7 @@ pub struct Opened {
 
 // Fewer than two knots: 8.
 fn count_cause(count: u32) -> Verdict
-    ensures { refusal result ≡ first (tooFew count ∷ []) }
+    ensures { refusal result ≡ first (too_few count ∷ []) }
 {
     if (count as usize) < KNOTS_MIN {
         return Verdict::Refused(Refusal::Few);
@@ -29,7 +29,7 @@ fn count_cause(count: u32) -> Verdict
 
 // What a read that answered so refuses, then 8, with so many knots.
 fn verdict_of(answer: Answer, count: u32) -> Verdict
-    ensures { refusal result ≡ refusalIn (replyOf answer) count }
+    ensures { refusal result ≡ refusal_in (reply_of answer) count }
 {
     match answer {
         Answer::Refused(cause) => Verdict::Refused(cause),

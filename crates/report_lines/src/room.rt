@@ -1,6 +1,6 @@
 // The room for a report.
 ghost use Rattle.std.specs.Prelude.{◌≡◌, length};
-ghost use Rattle.report_lines.specs.Machine.{roomMax};
+ghost use Rattle.report_lines.specs.Machine.{room_max};
 
 // More than the longest report: 128 lines of at most 126 bytes and one of at most 47.
 const REPORT_MAX: usize = 16_384;
@@ -12,7 +12,7 @@ pub struct Report {
 }
 
 pub(crate) fn report_room() -> [u8; REPORT_MAX]
-    ensures { length result ≡ roomMax }
+    ensures { length result ≡ room_max }
 {
     [0; REPORT_MAX]
 }

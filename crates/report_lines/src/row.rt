@@ -1,6 +1,6 @@
 // What a line of the report tells of a piece.
 ghost use Rattle.std.specs.Prelude.{◌≡◌, suc, ◌<◌, length};
-ghost use Rattle.scans.specs.Scan.{at as Scan·at};
+ghost use Rattle.scans.specs.Scan.{at as scan_at};
 ghost use Rattle.reel.specs.Machine.{Held, scans};
 ghost use Rattle.report_lines.specs.Machine.{Asks};
 
@@ -20,7 +20,7 @@ pub struct Row {
 // The position of knot k.
 fn position(reel: Reel, k: u32) -> u32
     requires { (Held reel) × (k < length (scans reel)) }
-    ensures { result ≡ (Scan·at (scans reel) k).position }
+    ensures { result ≡ (scan_at (scans reel) k).position }
 {
     match reel.position(k) {
         Answer::Number(x) => x as u32,

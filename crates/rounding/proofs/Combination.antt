@@ -9,15 +9,15 @@ use lib.IntN.{ℤ, pos, nat_abs, ◌+ℤ◌, ◌-ℤ◌, ◌*ℤ◌}
 use lib.ListN.{length}
 use Rattle.integer.proofs.Laws.{combination-times, times-combination}
 use Rattle.integer.proofs.Ring.{lets, solve, terms}
-use Rattle.integer.proofs.Within.{within-add, within-mul, within-neg, within-size, size-within, size-times}
+use Rattle.integer.proofs.Within.{within-add, within_mul, within-neg, within-size, size-within, size-times}
 use Rattle.hermite.specs.Polynomial.{Polynomial, ◌⊕◌, ◌⊙◌, coefficient, at}
-use Rattle.hermite.specs.HalfSum.{valueUnit}
-use Rattle.hermite.specs.Water.{weightedSum}
+use Rattle.hermite.specs.HalfSum.{value_unit}
+use Rattle.hermite.specs.Water.{weighted_sum}
 use Rattle.hermite.proofs.Length.{length-⊕, length-⊙}
 use Rattle.hermite.proofs.Linear.{Linear, dot-linear, coefficient-linear}
-use Rattle.hermite.proofs.Combination.{blend-combines, weightedSum-combines}
-use Rattle.rounding.specs.Piece.{Piece, piece, m, n, p, q, D, positionUnit, weight, exactBlend}
-use Rattle.rounding.specs.Value.{N, value, valueError}
+use Rattle.hermite.proofs.Combination.{blend-combines, weighted_sum-combines}
+use Rattle.rounding.specs.Piece.{Piece, piece, m, n, p, q, D, position_unit, weight, exact_blend}
+use Rattle.rounding.specs.Value.{N, value, value_error}
 use Rattle.rounding.specs.Water.{total}
 use Rattle.rounding.specs.Combination.{CombinedDistance}
 use Rattle.rounding.proofs.Distance.Value.{value-distance}
@@ -39,22 +39,22 @@ weight-combines α β h A B j =
 -- ---- two pieces of one length and one pair of grades
 
 -- the piece with the coefficients αA + βB at both ends
-abbrev pub combinedPiece : ℤ → ℤ → Piece → Piece → Piece
-combinedPiece α β P Q = piece P.h (α ⊙ P.left ⊕ β ⊙ Q.left) (α ⊙ P.right ⊕ β ⊙ Q.right)
+abbrev pub combined_piece : ℤ → ℤ → Piece → Piece → Piece
+combined_piece α β P Q = piece P.h (α ⊙ P.left ⊕ β ⊙ Q.left) (α ⊙ P.right ⊕ β ⊙ Q.right)
 
 -- the error of a value in size, with the piece's h, m and n known by other names
-error-size : (S : Piece) (r h i k : ℕ) → S.h ≡ h → m S ≡ i → n S ≡ k → 0 < h → r ≤ positionUnit * h → let d = positionUnit * h in
-    nat_abs (pos valueUnit *ℤ at r d (i + k + 1) (exactBlend S) -ℤ pos (d ^ (i + k + 1)) *ℤ value S r) ≤ (i + k + 1) * d ^ (i + k + 1)
-unfolding valueError
+error-size : (S : Piece) (r h i k : ℕ) → S.h ≡ h → m S ≡ i → n S ≡ k → 0 < h → r ≤ position_unit * h → let d = position_unit * h in
+    nat_abs (pos value_unit *ℤ at r d (i + k + 1) (exact_blend S) -ℤ pos (d ^ (i + k + 1)) *ℤ value S r) ≤ (i + k + 1) * d ^ (i + k + 1)
+unfolding value_error
 error-size S r h i k eh em en long within = rw (← eh, ← em, ← en) (value-distance S r (omega arith) (omega arith))
 
 -- three errors of the same bound
-errors-add : (a b e e' e'' M T s : ℕ) → e ≤ M * T → e' ≤ M * T → e'' ≤ M * T → s ≤ a * e + b * e' + e'' → s ≤ (1 + a + b) * M * T
-errors-add a b e e' e'' M T s f g k most = omega (arith, mul-le-mul_left a f, mul-le-mul_left b g)
+errors_add : (a b e e' e'' M T s : ℕ) → e ≤ M * T → e' ≤ M * T → e'' ≤ M * T → s ≤ a * e + b * e' + e'' → s ≤ (1 + a + b) * M * T
+errors_add a b e e' e'' M T s f g k most = omega (arith, mul-le-mul_left a f, mul-le-mul_left b g)
 
-module _ (α β : ℤ) (P Q : Piece) (same-h : Q.h ≡ P.h) (same-m : m Q ≡ m P) (same-n : n Q ≡ n P) where
+module _ (α β : ℤ) (P Q : Piece) (same_h : Q.h ≡ P.h) (same_m : m Q ≡ m P) (same_n : n Q ≡ n P) where
   abbrev R : Piece
-  R = combinedPiece α β P Q
+  R = combined_piece α β P Q
 
   grade-left : m R ≡ m P
   grade-left = omega (arith, combined-length α β P.left Q.left)
@@ -63,27 +63,27 @@ module _ (α β : ℤ) (P Q : Piece) (same-h : Q.h ≡ P.h) (same-m : m Q ≡ m 
   grade-right = omega (arith, combined-length α β P.right Q.right)
 
   left-weights : (j : ℕ) → p R j ≡ α *ℤ p P j +ℤ β *ℤ p Q j
-  left-weights j = rw same-h (weight-combines α β P.h P.left Q.left j)
+  left-weights j = rw same_h (weight-combines α β P.h P.left Q.left j)
 
   right-weights : (j : ℕ) → q R j ≡ α *ℤ q P j +ℤ β *ℤ q Q j
-  right-weights j = rw same-h (weight-combines α β P.h P.right Q.right j)
+  right-weights j = rw same_h (weight-combines α β P.h P.right Q.right j)
 
   -- whatever is linear in the blend
-  combines : (F : Polynomial → ℤ) → Linear F → F (exactBlend R) ≡ α *ℤ F (exactBlend P) +ℤ β *ℤ F (exactBlend Q)
-  unfolding exactBlend
+  combines : (F : Polynomial → ℤ) → Linear F → F (exact_blend R) ≡ α *ℤ F (exact_blend P) +ℤ β *ℤ F (exact_blend Q)
+  unfolding exact_blend
   combines F linear =
-      rw (grade-left, grade-right, same-m, same-n) (blend-combines α β (p P) (q P) (p Q) (q Q) (p R) (q R) left-weights right-weights F linear (m P) (n P))
+      rw (grade-left, grade-right, same_m, same_n) (blend-combines α β (p P) (q P) (p Q) (q Q) (p R) (q R) left-weights right-weights F linear (m P) (n P))
 
-  pub coefficients-combine : (i : ℕ) → coefficient (exactBlend R) i ≡ α *ℤ coefficient (exactBlend P) i +ℤ β *ℤ coefficient (exactBlend Q) i
-  coefficients-combine i = combines _ (coefficient-linear i)
+  pub coefficients_combine : (i : ℕ) → coefficient (exact_blend R) i ≡ α *ℤ coefficient (exact_blend P) i +ℤ β *ℤ coefficient (exact_blend Q) i
+  coefficients_combine i = combines _ (coefficient-linear i)
 
   pub total-combines : total R ≡ α *ℤ total P +ℤ β *ℤ total Q
   unfolding total
   total-combines =
-      rw (grade-left, grade-right, same-m, same-n)
-      (ap (λ x. pos P.h *ℤ x) (weightedSum-combines α β (p P) (q P) (p Q) (q Q) (p R) (q R) left-weights right-weights (m P) (n P)) ∙
-      times-combination (pos P.h) α β (weightedSum (m P) (n P) (p P) (q P)) (weightedSum (m P) (n P) (p Q) (q Q)) ∙
-      ap (λ h. α *ℤ total P +ℤ β *ℤ (pos h *ℤ weightedSum (m P) (n P) (p Q) (q Q))) (sym same-h))
+      rw (grade-left, grade-right, same_m, same_n)
+      (ap (λ x. pos P.h *ℤ x) (weighted_sum-combines α β (p P) (q P) (p Q) (q Q) (p R) (q R) left-weights right-weights (m P) (n P)) ∙
+      times-combination (pos P.h) α β (weighted_sum (m P) (n P) (p P) (q P)) (weighted_sum (m P) (n P) (p Q) (q Q)) ∙
+      ap (λ h. α *ℤ total P +ℤ β *ℤ (pos h *ℤ weighted_sum (m P) (n P) (p Q) (q Q))) (sym same_h))
 
   module _ (r : ℕ) (long : 0 < P.h) (within : r ≤ D P) where
     abbrev T : ℕ
@@ -91,10 +91,10 @@ module _ (α β : ℤ) (P Q : Piece) (same-h : Q.h ≡ P.h) (same-m : m Q ≡ m 
 
     -- the exact blend there, and the error of a value, each multiplied by D^(m+n+1)
     abbrev exact : Piece → ℤ
-    exact S = at r (D P) (N P) (exactBlend S)
+    exact S = at r (D P) (N P) (exact_blend S)
 
     abbrev error : Piece → ℤ
-    error S = pos valueUnit *ℤ exact S -ℤ pos T *ℤ value S r
+    error S = pos value_unit *ℤ exact S -ℤ pos T *ℤ value S r
 
     abbrev apart : ℤ
     apart = value R r -ℤ (α *ℤ value P r +ℤ β *ℤ value Q r)
@@ -103,8 +103,8 @@ module _ (α β : ℤ) (P Q : Piece) (same-h : Q.h ≡ P.h) (same-m : m Q ≡ m 
     unfolding at
     exact-combines = combines _ (dot-linear _)
 
-    apart-is : pos T *ℤ apart ≡ α *ℤ error P +ℤ β *ℤ error Q -ℤ error R
-    apart-is = rw exact-combines (regrouped (pos valueUnit) (pos T) (exact P) (exact Q) (value P r) (value Q r) (value R r))
+    apart_is : pos T *ℤ apart ≡ α *ℤ error P +ℤ β *ℤ error Q -ℤ error R
+    apart_is = rw exact-combines (regrouped (pos value_unit) (pos T) (exact P) (exact Q) (value P r) (value Q r) (value R r))
       where
         regrouped : (U T x y v v' w : ℤ) → T *ℤ (w -ℤ (α *ℤ v +ℤ β *ℤ v')) ≡
             α *ℤ (U *ℤ x -ℤ T *ℤ v) +ℤ β *ℤ (U *ℤ y -ℤ T *ℤ v') -ℤ (U *ℤ (α *ℤ x +ℤ β *ℤ y) -ℤ T *ℤ w)
@@ -114,8 +114,8 @@ module _ (α β : ℤ) (P Q : Piece) (same-h : Q.h ≡ P.h) (same-m : m Q ≡ m 
 
     error-most : nat_abs (pos T *ℤ apart) ≤ nat_abs α * nat_abs (error P) + nat_abs β * nat_abs (error Q) + nat_abs (error R)
     error-most =
-        rw apart-is (size-within _ (within-add _ _
-        (within-add _ _ (within-mul α _ (within-size α) (within-size (error P))) (within-mul β _ (within-size β) (within-size (error Q))))
+        rw apart_is (size-within _ (within-add _ _
+        (within-add _ _ (within_mul α _ (within-size α) (within-size (error P))) (within_mul β _ (within-size β) (within-size (error Q))))
         (within-neg _ (within-size (error R)))))
 
     pub value-combines : CombinedDistance α β P (value P r) (value Q r) (value R r)
@@ -123,7 +123,7 @@ module _ (α β : ℤ) (P Q : Piece) (same-h : Q.h ≡ P.h) (same-m : m Q ≡ m 
       where
         most : nat_abs (pos T *ℤ apart) ≤ (1 + nat_abs α + nat_abs β) * (m P + n P + 1) * T
         most =
-            errors-add (nat_abs α) (nat_abs β) (nat_abs (error P)) (nat_abs (error Q)) (nat_abs (error R)) (m P + n P + 1) T _
+            errors_add (nat_abs α) (nat_abs β) (nat_abs (error P)) (nat_abs (error Q)) (nat_abs (error R)) (m P + n P + 1) T _
             (error-size P r P.h (m P) (n P) refl refl refl long within)
-            (error-size Q r P.h (m P) (n P) same-h same-m same-n long within)
+            (error-size Q r P.h (m P) (n P) same_h same_m same_n long within)
             (error-size R r P.h (m P) (n P) refl grade-left grade-right long within) error-most

@@ -4,15 +4,15 @@ use Prim.Native.Nat.{ℕ, ◌^◌, ◌≤◌}
 use lib.IntN.{ℤ, pos, ◌*ℤ◌}
 use lib.ListN.{get_or}
 use mathlib.Core.List.{List}
-use Rattle.hermite.proofs.Taylor.{taylor-left, taylor-right}
-use Rattle.rounding.specs.Piece.{Piece, m, n, p, q, weight, exactBlend}
+use Rattle.hermite.proofs.Taylor.{taylor_left_lem, taylor_right_lem}
+use Rattle.rounding.specs.Piece.{Piece, m, n, p, q, weight, exact_blend}
 use Rattle.rounding.specs.Taylor.{Taylor}
 
-pub taylor-holds : (P : Piece) → m P ≤ 7 → n P ≤ 7 → Taylor P
-unfolding exactBlend
-taylor-holds P hm hn = record {
-  atLeft = taylor-left (m P) (n P) hm hn (p P) (q P);
-  atRight = taylor-right (m P) (n P) hm hn (p P) (q P);
+pub taylor_holds : (P : Piece) → m P ≤ 7 → n P ≤ 7 → Taylor P
+unfolding exact_blend
+taylor_holds P hm hn = record {
+  at_left = taylor_left_lem (m P) (n P) hm hn (p P) (q P);
+  at_right = taylor_right_lem (m P) (n P) hm hn (p P) (q P);
 }
 
 -- the weights of which the clause speaks, written out

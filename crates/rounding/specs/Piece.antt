@@ -25,7 +25,7 @@ n P = length P.right - 1
 abbrev pub weight : ℕ → List ℤ → ℕ → ℤ
 weight h C j = get_or C j (pos 0) *ℤ pos (h ^ j)
 
--- p_j, the left weights, and q_j; the right weights are (−1)^j × q_j (`rightWeights` of hermite)
+-- p_j, the left weights, and q_j; the right weights are (−1)^j × q_j (`right_weights` of hermite)
 abbrev pub p : Piece → ℕ → ℤ
 p P = weight P.h P.left
 
@@ -33,21 +33,21 @@ abbrev pub q : Piece → ℕ → ℤ
 q P = weight P.h P.right
 
 -- a query position is in 1/256 step, and so is r
-abbrev pub positionUnit : ℕ
-positionUnit = 256
+abbrev pub position_unit : ℕ
+position_unit = 256
 
 -- D = 256 × h: the piece's length in that unit
 abbrev pub D : Piece → ℕ
-D P = positionUnit * P.h
+D P = position_unit * P.h
 
 -- the exact blend of the piece
-unfoldable pub exactBlend : Piece → Polynomial
-exactBlend P = blend (m P) (n P) (p P) (q P)
+unfoldable pub exact_blend : Piece → Polynomial
+exact_blend P = blend (m P) (n P) (p P) (q P)
 
 -- the exact derivative over the piece, with the coefficients (i+1) × a_(i+1)
-unfoldable pub exactDerivative : Piece → Polynomial
-exactDerivative P = derivative (exactBlend P)
+unfoldable pub exact_derivative : Piece → Polynomial
+exact_derivative P = derivative (exact_blend P)
 
 -- the exact integral, in the unit of Water: h × the sum of a_i × 720,720/(i+1)
-unfoldable pub exactIntegral : Piece → ℤ
-exactIntegral P = pos P.h *ℤ integral (exactBlend P)
+unfoldable pub exact_integral : Piece → ℤ
+exact_integral P = pos P.h *ℤ integral (exact_blend P)

@@ -11,13 +11,13 @@ rounded u d = shr_z (pos 2 *ℤ u +ℤ pos d) (2 * d)
 -- one of the two
 pub record Nearest (u : ℤ) (d : ℕ) (q : ℤ) : Type 0 where
   pub near : 2 * nat_abs (u -ℤ q *ℤ pos d) ≤ d
-  pub halvesUp : 2 * nat_abs (u -ℤ q *ℤ pos d) ≡ d → u <ℤ (q *ℤ pos d)
+  pub halves_up : 2 * nat_abs (u -ℤ q *ℤ pos d) ≡ d → u <ℤ (q *ℤ pos d)
 
 -- u scaled by a/D: the whole number nearest to u × a / D
 unfoldable pub scaled : ℤ → ℕ → ℕ → ℤ
 scaled u a D = rounded (u *ℤ pos a) D
 
 -- u scaled by a/D, k times
-unfoldable pub scaledTimes : ℕ → ℤ → ℕ → ℕ → ℤ
-scaledTimes zero u a D = u
-scaledTimes (suc k) u a D = scaled (scaledTimes k u a D) a D
+unfoldable pub scaled_times : ℕ → ℤ → ℕ → ℕ → ℤ
+scaled_times zero u a D = u
+scaled_times (suc k) u a D = scaled (scaled_times k u a D) a D

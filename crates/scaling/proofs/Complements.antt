@@ -3,7 +3,7 @@ use mathlib.Core.Path.{◌≡◌, refl, sym, ◌∙◌}
 use Prim.Native.Nat.{ℕ, ◌-◌, ◌≤◌}
 use native.Mathlib.Omega.{arith}
 use lib.IntN.{ℤ}
-use Rattle.rounding.specs.Scaling.{scaledTimes}
+use Rattle.rounding.specs.Scaling.{scaled_times}
 use Rattle.scaling.specs.Machine.{Complements, Prepared}
 use Rattle.scaling.specs.declared.fraction.Fraction.{Fraction}
 
@@ -25,9 +25,9 @@ complements proper first second = record {
   together = omega (arith, first.0, first.1, second.0);
 }
 
-pub numerator-is : {s t : Fraction} → Complements s t → t.a ≡ s.d - s.a
-numerator-is pair = omega (arith, pair.together)
+pub numerator_is : {s t : Fraction} → Complements s t → t.a ≡ s.d - s.a
+numerator_is pair = omega (arith, pair.together)
 
 -- scaled by the complement is scaled by (d−a)/d
-pub by-complement : {s t : Fraction} → Complements s t → (k : ℕ) (z : ℤ) → scaledTimes k z t.a t.d ≡ scaledTimes k z (s.d - s.a) s.d
-by-complement {s} {t} pair k z = rw (numerator-is pair, pair.divisor) refl
+pub by_complement : {s t : Fraction} → Complements s t → (k : ℕ) (z : ℤ) → scaled_times k z t.a t.d ≡ scaled_times k z (s.d - s.a) s.d
+by_complement {s} {t} pair k z = rw (numerator_is pair, pair.divisor) refl

@@ -3,9 +3,10 @@
 ghost use Rattle.std.specs.Prelude.{◌≡◌, ◌*◌, ◌/◌, ◌≤◌, ◌<◌, ◌^◌, ◌-◌};
 ghost use Rattle.integer.specs.Within.{Within};
 ghost use Rattle.scaling.specs.Machine.{Divides, Prepared};
-ghost use Rattle.rounding.specs.Limits.{gapMax};
-ghost use Rattle.rounding.specs.Piece.{positionUnit};
-ghost use Rattle.rounding.specs.Scaling.{scaled as Scaling·scaled, scaledTimes};
+ghost use Rattle.rounding.specs.Limits.{gap_max};
+ghost use Rattle.rounding.specs.Piece.{position_unit};
+ghost use Rattle.rounding.specs.Scaling;
+ghost use Rattle.rounding.specs.Scaling.{scaled_times};
 
 use rounding::POSITION_UNIT;
 
@@ -20,8 +21,8 @@ pub struct Divisor {
 impl Divisor {
     // D of a piece of h steps.
     pub fn of(h: u64) -> Self
-        requires { (0 < h) × (h ≤ gapMax) }
-        ensures { (result.d ≡ positionUnit * h) × (Divides result.d result.reciprocal) }
+        requires { (0 < h) × (h ≤ gap_max) }
+        ensures { (result.d ≡ position_unit * h) × (Divides result.d result.reciprocal) }
     {
         Self {
             d: POSITION_UNIT * h,
@@ -83,7 +84,7 @@ impl Fraction {
 // exactly, and comes off again as 2^32; its d/2 stays, as the half that rounds to the nearest.
 pub fn scaled(u: i64, s: Fraction) -> i64
     requires { (Prepared s) × (Within (2 ^ 63 - 1) u) }
-    ensures { result ≡ Scaling·scaled u s.a s.d }
+    ensures { result ≡ Scaling.scaled u s.a s.d }
 {
     let high = u >> 32;
     let low = u & 0xffff_ffff;
@@ -94,7 +95,7 @@ pub fn scaled(u: i64, s: Fraction) -> i64
 // u scaled by a/d, k times.
 pub fn scaled_times(k: usize, u: i64, s: Fraction) -> i64
     requires { (Prepared s) × (Within (2 ^ 63 - 1) u) }
-    ensures { result ≡ scaledTimes k u s.a s.d }
+    ensures { result ≡ scaled_times k u s.a s.d }
 {
     let mut v = u;
     let mut i = 0;

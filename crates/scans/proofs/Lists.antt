@@ -17,10 +17,10 @@ past [] j h = refl
 past (x ∷ l) zero h = absurd (omega arith)
 past (x ∷ l) (suc j) h = past l j (omega arith)
 
-pub last-at : (l : List Scan) (j : ℕ) → suc j ≡ length l → before l (length l) ≡ some (at l j)
-last-at l j e = rw (← e) (there l j (omega arith))
+pub last_at : (l : List Scan) (j : ℕ) → suc j ≡ length l → before l (length l) ≡ some (at l j)
+last_at l j e = rw (← e) (there l j (omega arith))
 
-pub got-old : (l t : List Scan) (j : ℕ) → j < length l → get_elem? (l ++ t) j ≡ get_elem? l j
-got-old [] t j h = absurd (omega arith)
-got-old (x ∷ l) t zero h = refl
-got-old (x ∷ l) t (suc j) h = got-old l t j (omega arith)
+pub got_old : (l t : List Scan) (j : ℕ) → j < length l → get_elem? (l ++ t) j ≡ get_elem? l j
+got_old [] t j h = absurd (omega arith)
+got_old (x ∷ l) t zero h = refl
+got_old (x ∷ l) t (suc j) h = got_old l t j (omega arith)

@@ -9,8 +9,8 @@ pub record Scan : Type 0 where
   pub coefficients : List ℤ
 
 -- the scan at x with the coefficients C
-abbrev pub scanOf : ℕ → List ℤ → Scan
-scanOf x C = record { position = x; coefficients = C }
+abbrev pub scan_of : ℕ → List ℤ → Scan
+scan_of x C = record { position = x; coefficients = C }
 
 -- its grade m
 abbrev pub grade : Scan → ℕ
@@ -18,11 +18,11 @@ grade s = length s.coefficients - 1
 
 -- the list that serves the piece on its left, and the one for the piece on its right: a scan has one list, and the two
 -- names wait for request 8/14, which gives it two
-abbrev pub leftList : Scan → List ℤ
-leftList s = s.coefficients
+abbrev pub left_list : Scan → List ℤ
+left_list s = s.coefficients
 
-abbrev pub rightList : Scan → List ℤ
-rightList s = s.coefficients
+abbrev pub right_list : Scan → List ℤ
+right_list s = s.coefficients
 
 -- the gap from a scan to the position of the next, in steps
 abbrev pub gap : Scan → ℕ → ℕ
@@ -30,7 +30,7 @@ gap s x = x - s.position
 
 -- scan k of a list, counted from 0
 abbrev pub at : List Scan → ℕ → Scan
-at scans k = get_or scans k (scanOf 0 [])
+at scans k = get_or scans k (scan_of 0 [])
 
 -- the neighbours of place k in a list: the scans at k − 1 and k + 1, where there are such
 abbrev pub before : List Scan → ℕ → Option Scan

@@ -3,32 +3,32 @@ use mathlib.Core.List.{List, []}
 use mathlib.Core.Path.{◌≡◌, sym, ◌∙◌, ap}
 use Rattle.scans.specs.Scan.{Scan}
 use Rattle.scans.specs.Standing.{Standing}
-use Rattle.scans.proofs.Distances.{taylor-of}
-use Rattle.calls.specs.Calls.{Call, replyTo, standingAfter, output}
+use Rattle.scans.proofs.Distances.{taylor_of}
+use Rattle.calls.specs.Calls.{Call, reply_to, standing_after, output}
 use Rattle.calls.proofs.Standing.{standing-after}
-use Rattle.calls.proofs.Replies.{value-close, trend-close, total-is-exact}
+use Rattle.calls.proofs.Replies.{value-close, trend-close, total_is_exact}
 use Rattle.reel.specs.Machine.{scans, Held, Does}
 use Rattle.reel.specs.declared.held.Reel.{Reel}
-use Rattle.reel.proofs.Contracts.{empty-is}
+use Rattle.reel.proofs.Contracts.{empty_is}
 use Rattle.sequences.specs.Called.{Outcome, Called}
 use Rattle.sequences.specs.Sequences.{Right, Sequences}
 use Rattle.sequences.proofs.Runs.{every_call}
-use Rattle.sequences.proofs.Called.{called-does}
+use Rattle.sequences.proofs.Called.{called_does}
 
 -- of a call on a held reel, all that demand 3 says
 right : {call : Call} {given handed : Reel} {outcome : Outcome} (standing : List Scan) → Standing standing →
     scans given ≡ standing → Does call given outcome.answer handed outcome.output → Right call standing outcome handed
 right {call = call} standing st e does =
-    let replies = does.replies ∙ ap (replyTo call) e in
+    let replies = does.replies ∙ ap (reply_to call) e in
     record {
       replies = replies;
-      leaves = does.leaves ∙ ap (standingAfter call) e;
+      leaves = does.leaves ∙ ap (standing_after call) e;
       writes = does.writes ∙ ap (output call) e;
-      values = λ x v c a. value-close standing st x v (ap (λ k. replyTo k standing) (sym c) ∙ sym replies ∙ a);
-      trends = λ x z c a. trend-close standing st x z (ap (λ k. replyTo k standing) (sym c) ∙ sym replies ∙ a);
-      totals = λ i j t c a. total-is-exact standing st i j t (ap (λ k. replyTo k standing) (sym c) ∙ sym replies ∙ a);
-      ends = taylor-of standing st;
-      endsThen = taylor-of (standingAfter call standing) (standing-after call standing st);
+      values = λ x v c a. value-close standing st x v (ap (λ k. reply_to k standing) (sym c) ∙ sym replies ∙ a);
+      trends = λ x z c a. trend-close standing st x z (ap (λ k. reply_to k standing) (sym c) ∙ sym replies ∙ a);
+      totals = λ i j t c a. total_is_exact standing st i j t (ap (λ k. reply_to k standing) (sym c) ∙ sym replies ∙ a);
+      ends = taylor_of standing st;
+      ends_then = taylor_of (standing_after call standing) (standing-after call standing st);
     }
 
 -- the reel is held, and its scans are those that stand
@@ -39,11 +39,11 @@ record Matches (r : Reel) (standing : List Scan) : Type 0 where
 -- one call
 step : (call : Call) (given : Reel) (outcome : Outcome) (handed : Reel) (standing : List Scan) →
     Called call given outcome handed → Matches given standing →
-    Right call standing outcome handed × Matches handed (standingAfter call standing)
+    Right call standing outcome handed × Matches handed (standing_after call standing)
 step call given outcome handed standing called matches =
-    let does = called-does called matches.held in
+    let does = called_does called matches.held in
     let holds = right standing (rw matches.are at matches.held.standing) matches.are does in
     (holds, record { held = does.held; are = holds.leaves })
 
 pub sequences : Sequences
-sequences begin calls empty run = let is = empty-is begin empty in every_call Matches step run [] (record { held = is.0; are = is.1 })
+sequences begin calls empty run = let is = empty_is begin empty in every_call Matches step run [] (record { held = is.0; are = is.1 })

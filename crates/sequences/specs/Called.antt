@@ -29,7 +29,7 @@ outcome handed out = record { answer = handed.answer; output = out }
 -- an output of its own": `now` of a slice is what it holds, of the output before the call (`out`) and after it
 -- (`after`)
 pub data Called : Call → Reel → Outcome → Reel → Type 0 where
-  by-clear : (given : Reel) (handed : Handed) →
+  by_clear : (given : Reel) (handed : Handed) →
       (clear_reads.Pre tt (given, tt) →
       clear_reads.Post tt (given, tt) handed (given, tt)) →
       Called clear given (outcome handed []) handed.reel
@@ -37,7 +37,7 @@ pub data Called : Call → Reel → Outcome → Reel → Type 0 where
       (append-reads.Pre κs (given, (x, (C, tt))) →
       append-reads.Post κs (given, (x, (C, tt))) handed (given, (x, (C, tt)))) →
       Called (append x C.now) given (outcome handed []) handed.reel
-  by-correct : (κs : Lfts 1) (given : Reel) (k : ℕ) (C : Bor (List ℤ)) (handed : Handed) →
+  by_correct : (κs : Lfts 1) (given : Reel) (k : ℕ) (C : Bor (List ℤ)) (handed : Handed) →
       (correct-reads.Pre κs (given, (k, (C, tt))) →
       correct-reads.Post κs (given, (k, (C, tt))) handed (given, (k, (C, tt)))) →
       Called (correct k C.now) given (outcome handed []) handed.reel
@@ -45,7 +45,7 @@ pub data Called : Call → Reel → Outcome → Reel → Type 0 where
       (read-reads.Pre κs (given, (bytes, tt)) →
       read-reads.Post κs (given, (bytes, tt)) handed (given, (bytes, tt))) →
       Called (read bytes.now) given (outcome handed []) handed.reel
-  by-write : (κs : Lfts 1) (given : Reel) (out after : Bor (List ℕ)) (handed : Handed) →
+  by_write : (κs : Lfts 1) (given : Reel) (out after : Bor (List ℕ)) (handed : Handed) →
       (write-reads.Pre κs (given, (out, tt)) →
       write-reads.Post κs (given, (out, tt)) handed (given, (after, tt))) →
       Called (write out.now) given (outcome handed after.now) handed.reel
@@ -53,7 +53,7 @@ pub data Called : Call → Reel → Outcome → Reel → Type 0 where
       (value-reads.Pre tt (given, (x, tt)) →
       value-reads.Post tt (given, (x, tt)) handed (given, (x, tt))) →
       Called (value x) given (outcome handed []) handed.reel
-  by-trend : (given : Reel) (x : ℕ) (handed : Handed) →
+  by_trend : (given : Reel) (x : ℕ) (handed : Handed) →
       (trend-reads.Pre tt (given, (x, tt)) →
       trend-reads.Post tt (given, (x, tt)) handed (given, (x, tt))) →
       Called (trend x) given (outcome handed []) handed.reel

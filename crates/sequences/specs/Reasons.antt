@@ -3,12 +3,12 @@
 use contract.Lifetimes.{Lfts}
 use Rattle.std.specs.Borrow.{Bor}
 use Rattle.std.specs.Prelude.{List, ℕ, ℤ}
-use Rattle.knot.specs.Machine.{spotIn}
+use Rattle.knot.specs.Machine.{spot_in}
 use Rattle.knot.specs.declared.reason.Reason.{Reason}
 use Rattle.scans.specs.Combination.{combination}
 use Rattle.calls.specs.Calls.{Call, append, correct, read, changed}
-use Rattle.calls.specs.Reason.{tested, sumTested, Reasoned}
-use Rattle.reel.specs.Machine.{Held, replyOf, scans}
+use Rattle.calls.specs.Reason.{tested, sum_tested, Reasoned}
+use Rattle.reel.specs.Machine.{Held, reply_of, scans}
 use Rattle.reel.specs.declared.held.Reel.{Reel}
 use Rattle.reel.specs.declared.answer.Handed.{Handed}
 use Rattle.reel.proofs.held.Reel.append_reason.Reads as append-reason-reads
@@ -20,15 +20,15 @@ use Rattle.sequences.specs.Combination.{CombineCalled}
 
 -- what the question beside a call does: if what its function requires holds, then what it ensures does
 pub data Asked : Call → Reel → Reason → Type 0 where
-  of-append : (κs : Lfts 1) (given : Reel) (x : ℕ) (C : Bor (List ℤ)) (reason : Reason) →
+  of_append : (κs : Lfts 1) (given : Reel) (x : ℕ) (C : Bor (List ℤ)) (reason : Reason) →
       (append-reason-reads.Pre κs (given, (x, (C, tt))) →
       append-reason-reads.Post κs (given, (x, (C, tt))) reason (given, (x, (C, tt)))) →
       Asked (append x C.now) given reason
-  of-correct : (κs : Lfts 1) (given : Reel) (k : ℕ) (C : Bor (List ℤ)) (reason : Reason) →
+  of_correct : (κs : Lfts 1) (given : Reel) (k : ℕ) (C : Bor (List ℤ)) (reason : Reason) →
       (correct-reason-reads.Pre κs (given, (k, (C, tt))) →
       correct-reason-reads.Post κs (given, (k, (C, tt))) reason (given, (k, (C, tt)))) →
       Asked (correct k C.now) given reason
-  of-read : (κs : Lfts 1) (given : Reel) (bytes : Bor (List ℕ)) (reason : Reason) →
+  of_read : (κs : Lfts 1) (given : Reel) (bytes : Bor (List ℕ)) (reason : Reason) →
       (read-reason-reads.Pre κs (given, (bytes, tt)) →
       read-reason-reads.Post κs (given, (bytes, tt)) reason (given, (bytes, tt))) →
       Asked (read bytes.now) given reason
@@ -44,8 +44,8 @@ SumAsked α β given other reason =
 pub record ReasonsOfAnswers : Type 0 where
   pub calls : (call : Call) (given handed : Reel) (outcome : Outcome) (reason : Reason) → Held given →
       Called call given outcome handed → Asked call given reason →
-      Reasoned (tested call (scans given)) (changed call (scans given)) (replyOf outcome.answer) (spotIn reason)
+      Reasoned (tested call (scans given)) (changed call (scans given)) (reply_of outcome.answer) (spot_in reason)
   pub sums : (α β : ℤ) (given other : Reel) (sum : Handed) (reason : Reason) → Held given → Held other →
       CombineCalled α β given other sum → SumAsked α β given other reason →
-      Reasoned (sumTested α β (scans given) (scans other)) (combination α β (scans given) (scans other))
-      (replyOf sum.answer) (spotIn reason)
+      Reasoned (sum_tested α β (scans given) (scans other)) (combination α β (scans given) (scans other))
+      (reply_of sum.answer) (spot_in reason)

@@ -1,7 +1,7 @@
 -- Request 7/14 about what the calls hand over, as their functions' own contracts have them, on any held reels.
 use Rattle.std.specs.Prelude.{Bool, true, List, ◌≡◌, ℕ, pos, take}
 use Rattle.calls.specs.Calls.{number, write}
-use Rattle.reel.specs.Machine.{Held, replyOf, scans}
+use Rattle.reel.specs.Machine.{Held, reply_of, scans}
 use Rattle.reel.specs.declared.held.Reel.{Reel}
 use Rattle.reel.proofs.held.Reel.same.Reads as same_Reads
 use Rattle.sequences.specs.Called.{Outcome, Called}
@@ -13,8 +13,8 @@ SameCalled given other says =
 
 -- same says yes exactly when these two things are equal
 pub record TellsEqual (says : Bool) {A : Type 0} (one another : A) : Type 0 where
-  pub ofYes : says ≡ true → one ≡ another
-  pub ofEqual : one ≡ another → says ≡ true
+  pub of_yes : says ≡ true → one ≡ another
+  pub of_equal : one ≡ another → says ≡ true
 
 -- of any two held reels it tells whether their scans are equal: knot counts, positions, grades and all coefficients.
 -- What the free places of their arrays hold does not matter
@@ -28,6 +28,6 @@ SameScans = (given other : Reel) (says : Bool) →
 abbrev pub SameWritten : Type 0
 SameWritten = (given other given' other' : Reel) (says : Bool) (mine its : Outcome) (out out' : List ℕ) (n n' : ℕ) →
     Held given → Held other → SameCalled given other says →
-    Called (write out) given mine given' → replyOf mine.answer ≡ number (pos n) →
-    Called (write out') other its other' → replyOf its.answer ≡ number (pos n') →
+    Called (write out) given mine given' → reply_of mine.answer ≡ number (pos n) →
+    Called (write out') other its other' → reply_of its.answer ≡ number (pos n') →
     TellsEqual says (take n mine.output) (take n' its.output)

@@ -13,13 +13,13 @@ use lib.ListN.{length, length-append}
 use lib.Signed.{lt_z}
 use mir.Syntax.{w64}
 use mir.Val.{SFits}
-use Rattle.text.specs.Text.{digitsBy, decimal, signedDecimal}
+use Rattle.text.specs.Text.{digits_by, decimal, signed_decimal}
 
 fewer : (m f : ℕ) → 0 < m → m < suc f → m / 10 < f
 fewer m f p h = omega (arith, div-lt_self {k = 10} p (lit< tt))
 
 -- rounds that are enough give the same digits as any others that are
-enough : (f g n : ℕ) → n / 10 < f → n / 10 < g → digitsBy (suc f) n ≡ digitsBy (suc g) n
+enough : (f g n : ℕ) → n / 10 < f → n / 10 < g → digits_by (suc f) n ≡ digits_by (suc g) n
 enough zero g n h k = absurd (omega arith)
 enough (suc f) zero n h k = absurd (omega arith)
 enough (suc f) (suc g) n h k =
@@ -32,31 +32,31 @@ unfolding decimal
 unrolled zero = refl
 unrolled (suc n) = enough (suc n) (suc (suc n / 10)) (suc n) (div-lt_self (zero-lt-suc n) (lit< tt)) (omega arith)
 
-pub one-digit : (n : ℕ) → n < 10 → decimal n ≡ (48 + n) ∷ []
-one-digit n h = rw (unrolled n, lt-ltb n 10 h) refl
+pub one_digit : (n : ℕ) → n < 10 → decimal n ≡ (48 + n) ∷ []
+one_digit n h = rw (unrolled n, lt-ltb n 10 h) refl
 
-pub more-digits : (n : ℕ) → 10 ≤ n → decimal n ≡ decimal (n / 10) ++ ((48 + n % 10) ∷ [])
-more-digits n h = rw (unrolled n, le-ltb n 10 h) refl
+pub more_digits : (n : ℕ) → 10 ≤ n → decimal n ≡ decimal (n / 10) ++ ((48 + n % 10) ∷ [])
+more_digits n h = rw (unrolled n, le-ltb n 10 h) refl
 
 -- at most k + 1 digits below 10^(k + 1)
 pub decimal-length : (k n : ℕ) → n < 10 ^ suc k → length (decimal n) ≤ suc k
-decimal-length zero n h = rw (one-digit n h) (omega arith)
+decimal-length zero n h = rw (one_digit n h) (omega arith)
 decimal-length (suc k) n h =
-    ⊎_elim (λ e. rw (one-digit n (omega arith)) (omega arith))
+    ⊎_elim (λ e. rw (one_digit n (omega arith)) (omega arith))
     (λ p.
-    rw (more-digits n (omega arith), length-append)
+    rw (more_digits n (omega arith), length-append)
     (omega (arith, decimal-length k (n / 10) ((div-lt_iff_lt-mul (lit< tt)).1 (rw pow-suc at h)))))
     (eq-zero-or-pos (n / 10))
 
-pub signed_below : (z : ℤ) → lt_z z (pos 0) ≡ true → signedDecimal z ≡ 45 ∷ decimal (nat_abs z)
+pub signed_below : (z : ℤ) → lt_z z (pos 0) ≡ true → signed_decimal z ≡ 45 ∷ decimal (nat_abs z)
 signed_below (pos n) e = absurd (omega (arith, ltb-true n 0 e))
 signed_below (negsuc n) e = refl
 
-pub signed-from : (z : ℤ) → lt_z z (pos 0) ≡ false → signedDecimal z ≡ decimal (nat_abs z)
-signed-from (pos n) e = refl
-signed-from (negsuc n) e = absurd (true≢false e)
+pub signed_from : (z : ℤ) → lt_z z (pos 0) ≡ false → signed_decimal z ≡ decimal (nat_abs z)
+signed_from (pos n) e = refl
+signed_from (negsuc n) e = absurd (true≢false e)
 
 -- an i64 has at most 19 digits, and so 20 bytes with the sign
-pub signed-length : (z : ℤ) → SFits w64 z → length (signedDecimal z) ≤ 20
-signed-length (pos n) f = omega (arith, decimal-length 18 n (omega (arith, f.sfits)))
-signed-length (negsuc n) f = omega (arith, decimal-length 18 (suc n) (omega (arith, f.sfits)))
+pub signed_length : (z : ℤ) → SFits w64 z → length (signed_decimal z) ≤ 20
+signed_length (pos n) f = omega (arith, decimal-length 18 n (omega (arith, f.sfits)))
+signed_length (negsuc n) f = omega (arith, decimal-length 18 (suc n) (omega (arith, f.sfits)))

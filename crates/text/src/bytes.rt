@@ -1,6 +1,6 @@
 // Bytes as they are, and as hexadecimal digits.
 ghost use Rattle.std.specs.Prelude.{◌≡◌, ◌+◌, ◌*◌, ◌≤◌, ◌<◌, length};
-ghost use Rattle.text.specs.Text.{Put, hexDigit, hexText};
+ghost use Rattle.text.specs.Text.{Put, hex_digit, hex_text};
 
 pub fn put_bytes(out: &mut [u8], at: usize, text: &[u8]) -> usize
     requires { at + length text.now ≤ length out.old }
@@ -17,14 +17,14 @@ pub fn put_bytes(out: &mut [u8], at: usize, text: &[u8]) -> usize
 // In lower case.
 fn hex_digit(d: u8) -> u8
     requires { d < 16 }
-    ensures { result ≡ hexDigit d }
+    ensures { result ≡ hex_digit d }
 {
     if d < 10 { 48 + d } else { 87 + d }
 }
 
 pub fn put_hex(out: &mut [u8], at: usize, bytes: &[u8]) -> usize
     requires { at + 2 * length bytes.now ≤ length out.old }
-    ensures put { Put out.old at (hexText bytes.now) result out.new }
+    ensures put { Put out.old at (hex_text bytes.now) result out.new }
     ensures value { result ≡ at + 2 * length bytes.now }
 {
     let mut to = at;

@@ -1,6 +1,6 @@
 // Numbers in decimal.
 ghost use Rattle.std.specs.Prelude.{◌+◌, ◌≤◌, length};
-ghost use Rattle.text.specs.Text.{Put, decimal, signedDecimal};
+ghost use Rattle.text.specs.Text.{Put, decimal, signed_decimal};
 
 use magnitude::magnitude;
 
@@ -28,7 +28,7 @@ pub fn put_decimal(out: &mut [u8], at: usize, n: u64) -> usize
 
 pub fn put_signed(out: &mut [u8], at: usize, z: i64) -> usize
     requires { at + 20 ≤ length out.old }
-    ensures put { Put out.old at (signedDecimal z) result out.new }
+    ensures put { Put out.old at (signed_decimal z) result out.new }
     ensures upper_bound { result ≤ at + 20 }
 {
     if z < 0 {

@@ -1,12 +1,12 @@
 // The total of a piece, in 1/720,720 of a count × step.
 ghost use Rattle.std.specs.Prelude.{◌≡◌, ◌≤◌, ◌<◌, pos, ◌*ℤ◌, get_or, length};
-ghost use Rattle.integer.specs.Sum.{sum as Sum·sum};
+ghost use Rattle.integer.specs.Sum;
 ghost use Rattle.hermite.specs.Polynomial.{coefficient};
 ghost use Rattle.knot_weights.specs.Machine.{Weights};
-ghost use Rattle.rounding.specs.Limits.{gradeMax, sizeMax};
+ghost use Rattle.rounding.specs.Limits.{grade_max, size_max};
 ghost use Rattle.rounding.specs.Piece.{piece};
 ghost use Rattle.rounding.specs.Size.{Admitted};
-ghost use Rattle.rounding.specs.Water.{total as Water·total};
+ghost use Rattle.rounding.specs.Water;
 ghost use Rattle.water.specs.Machine.{Entries};
 
 use crate::table::integral_weights;
@@ -14,8 +14,8 @@ use knot_weights::{right_weights, weights};
 
 // The sum of c_j × w_j over j from 0 to m.
 fn weighted(m: usize, c: &[u32], w: &[i64]) -> i64
-    requires { (m ≤ gradeMax) × (m < length c.now) × (Entries c.now) × (Weights sizeMax w.now) }
-    ensures { result ≡ Sum·sum m (λ j. pos (get_or c.now j 0) *ℤ coefficient w.now j) }
+    requires { (m ≤ grade_max) × (m < length c.now) × (Entries c.now) × (Weights size_max w.now) }
+    ensures { result ≡ Sum.sum m (λ j. pos (get_or c.now j 0) *ℤ coefficient w.now j) }
 {
     let mut sum = c[0] as i64 * w[0];
     let mut j = 0;
@@ -29,7 +29,7 @@ fn weighted(m: usize, c: &[u32], w: &[i64]) -> i64
 // The total: each end's weights by their integral weights, and h times the sum.
 pub fn total(h: u64, left: &[i32], right: &[i32]) -> i64
     requires { Admitted (piece h left.now right.now) }
-    ensures { result ≡ Water·total (piece h left.now right.now) }
+    ensures { result ≡ Water.total (piece h left.now right.now) }
 {
     let m = left.len() - 1;
     let n = right.len() - 1;

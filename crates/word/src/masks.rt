@@ -1,75 +1,76 @@
 // The fields of a word, taken out and put back by shifts and masks.
 ghost use Rattle.std.specs.Prelude.{◌≡◌, ◌^◌, ◌<◌};
-ghost use Rattle.block.specs.Fields.{kind as Fields·kind, knotCount, edition as Fields·edition, headerSpare};
-ghost use Rattle.block.specs.Fields.{headerWord, position as Fields·position, grade as Fields·grade, knotSpare};
-ghost use Rattle.block.specs.Fields.{knotWord, payload as Fields·payload, coefficientWord, wordsBefore, end_word};
-ghost use Rattle.block.specs.Fields.{reading as Fields·reading, readingMark, readingSpare};
+ghost use Rattle.block.specs.Fields;
+ghost use Rattle.block.specs.Fields.{knot_count, header_spare};
+ghost use Rattle.block.specs.Fields.{header_word, knot_spare};
+ghost use Rattle.block.specs.Fields.{knot_word, coefficient_word, words_before, end_word};
+ghost use Rattle.block.specs.Fields.{reading_mark, reading_spare};
 
 // The top two bits.
 pub fn kind(word: u32) -> u32
-    ensures { result ≡ Fields·kind word }
+    ensures { result ≡ Fields.kind word }
 {
     word >> 30
 }
 
 // Of a header: bits 0 to 7.
 pub fn knot_count(word: u32) -> u32
-    ensures { result ≡ knotCount word }
+    ensures { result ≡ knot_count word }
 {
     word & 0xff
 }
 
 // Of a header: bits 8 to 15.
 pub fn edition(word: u32) -> u32
-    ensures { result ≡ Fields·edition word }
+    ensures { result ≡ Fields.edition word }
 {
     (word >> 8) & 0xff
 }
 
 // Of a header: bits 16 to 29.
 pub fn header_spare(word: u32) -> u32
-    ensures { result ≡ headerSpare word }
+    ensures { result ≡ header_spare word }
 {
     (word & 0x3fff_ffff) >> 16
 }
 
 pub fn header_word(count: u8, edition: u8) -> u32
-    ensures { result ≡ headerWord count edition }
+    ensures { result ≡ header_word count edition }
 {
     (count as u32) | ((edition as u32) << 8)
 }
 
 // Of a knot word: bits 0 to 15.
 pub fn position(word: u32) -> u32
-    ensures { result ≡ Fields·position word }
+    ensures { result ≡ Fields.position word }
 {
     word & 0xffff
 }
 
 // Of a knot word: bits 16 to 18.
 pub fn grade(word: u32) -> u32
-    ensures { result ≡ Fields·grade word }
+    ensures { result ≡ Fields.grade word }
 {
     (word >> 16) & 7
 }
 
 // Of a knot word: bits 19 to 29.
 pub fn knot_spare(word: u32) -> u32
-    ensures { result ≡ knotSpare word }
+    ensures { result ≡ knot_spare word }
 {
     (word & 0x3fff_ffff) >> 19
 }
 
 pub fn knot_word(position: u16, grade: u8) -> u32
     requires { grade < 2 ^ 3 }
-    ensures { result ≡ knotWord position grade }
+    ensures { result ≡ knot_word position grade }
 {
     ((position as u32) | ((grade as u32) << 16)) | (1 << 30)
 }
 
 // Of a coefficient word: bits 0 to 28, less bit 29, the sign.
 pub fn payload(word: u32) -> i32
-    ensures { result ≡ Fields·payload word }
+    ensures { result ≡ Fields.payload word }
 {
     let low = word & 0x1fff_ffff;
     let sign = (word >> 29) & 1;
@@ -77,14 +78,14 @@ pub fn payload(word: u32) -> i32
 }
 
 pub fn coefficient_word(c: i32) -> u32
-    ensures { result ≡ coefficientWord c }
+    ensures { result ≡ coefficient_word c }
 {
     ((c & 0x3fff_ffff) as u32) | (2 << 30)
 }
 
 // Of an end word: bits 0 to 29.
 pub fn words_before(word: u32) -> u32
-    ensures { result ≡ wordsBefore word }
+    ensures { result ≡ words_before word }
 {
     word & 0x3fff_ffff
 }
@@ -98,21 +99,21 @@ pub fn end_word(before: u32) -> u32
 
 // Of a reading: bit 29.
 pub fn reading_mark(word: u32) -> u32
-    ensures { result ≡ readingMark word }
+    ensures { result ≡ reading_mark word }
 {
     (word & 0x3fff_ffff) >> 29
 }
 
 // Of a reading: bits 0 to 15.
 pub fn reading(word: u32) -> u32
-    ensures { result ≡ Fields·reading word }
+    ensures { result ≡ Fields.reading word }
 {
     word & 0xffff
 }
 
 // Of a reading: bits 16 to 28.
 pub fn reading_spare(word: u32) -> u32
-    ensures { result ≡ readingSpare word }
+    ensures { result ≡ reading_spare word }
 {
     (word & 0x1fff_ffff) >> 16
 }

@@ -4,8 +4,8 @@ ghost use Rattle.scans.specs.RefusalTable.{first};
 ghost use Rattle.knot.specs.Machine.{refusal};
 ghost use Rattle.following.specs.Machine.{neighbour};
 ghost use Rattle.block.specs.Bytes.{words};
-ghost use Rattle.block.specs.Reading.{endCauses, headerCauses, knotCauses, lengthCauses, readingCauses};
-ghost use Rattle.block.specs.Reading.{isEdition, isReading};
+ghost use Rattle.block.specs.Reading.{end_causes, header_causes, knot_causes, length_causes, reading_causes};
+ghost use Rattle.block.specs.Reading.{is_edition, is_reading};
 
 use block::{PLAIN_EDITION, READINGS_EDITION};
 use following::{Neighbour, position_cause};
@@ -17,7 +17,7 @@ use word::{
 
 // Of the length in bytes.
 pub fn length_fault(length: usize) -> Verdict
-    ensures { refusal result ≡ first (lengthCauses length) }
+    ensures { refusal result ≡ first (length_causes length) }
 {
     if length % 4 != 0 {
         return Verdict::Refused(Refusal::Form);
@@ -30,7 +30,7 @@ pub fn length_fault(length: usize) -> Verdict
 
 // The editions that are read.
 fn is_edition(edition: u32) -> bool
-    ensures { result ≡ isEdition edition }
+    ensures { result ≡ is_edition edition }
 {
     if edition == PLAIN_EDITION as u32 {
         return true;
@@ -40,7 +40,7 @@ fn is_edition(edition: u32) -> bool
 
 // Of the first word: its form, then 2.
 pub fn header_fault(word: u32) -> Verdict
-    ensures { refusal result ≡ first (headerCauses word) }
+    ensures { refusal result ≡ first (header_causes word) }
 {
     match kind(word) {
         0 => {
@@ -61,7 +61,7 @@ pub fn header_fault(word: u32) -> Verdict
 
 // Of a knot word after the last knot: its form, then 4 and 5.
 pub fn knot_fault(last: Neighbour, word: u32) -> Verdict
-    ensures { refusal result ≡ first (knotCauses (neighbour last) word) }
+    ensures { refusal result ≡ first (knot_causes (neighbour last) word) }
 {
     match kind(word) {
         1 => {
@@ -76,7 +76,7 @@ pub fn knot_fault(last: Neighbour, word: u32) -> Verdict
 
 // Whether a word is a reading, where readings may stand.
 pub fn is_reading(word: u32) -> bool
-    ensures { result ≡ isReading word }
+    ensures { result ≡ is_reading word }
 {
     match kind(word) {
         3 => reading_mark(word) == 1,
@@ -86,7 +86,7 @@ pub fn is_reading(word: u32) -> bool
 
 // Of a reading after `count` others of its knot: its form, then 12.
 pub fn reading_fault(count: usize, word: u32) -> Verdict
-    ensures { refusal result ≡ first (readingCauses count (word ∷ [])) }
+    ensures { refusal result ≡ first (reading_causes count (word ∷ [])) }
 {
     if reading_spare(word) != 0 {
         return Verdict::Refused(Refusal::Form);
@@ -99,7 +99,7 @@ pub fn reading_fault(count: usize, word: u32) -> Verdict
 
 // Of the words from k on, where the end word is due: it is the last one, and counts the words before it.
 pub fn end_fault(block: &[u8], k: usize) -> Verdict
-    ensures { refusal result ≡ first (endCauses (length (words block.now) - 1)
+    ensures { refusal result ≡ first (end_causes (length (words block.now) - 1)
         (drop k (words block.now))) }
 {
     let count = block.len() / 4;

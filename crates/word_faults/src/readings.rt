@@ -1,7 +1,7 @@
 // The readings of one knot. The reel keeps none; the reader steps over them, and a view shows them.
 ghost use Rattle.std.specs.Prelude.{◌^◌, ◌<◌, drop};
 ghost use Rattle.block.specs.Bytes.{words};
-ghost use Rattle.block.specs.Reading.{readingWords};
+ghost use Rattle.block.specs.Reading.{reading_words};
 ghost use Rattle.word_faults.specs.Machine.{Counts};
 
 use crate::faults::{is_reading, reading_fault};
@@ -18,7 +18,7 @@ pub struct Counted {
 // Those that stand from a word on, in a block of this edition.
 pub fn count_readings(block: &[u8], edition: u32, from: usize) -> Counted
     requires { from < 2 ^ 32 }
-    ensures { Counts result (readingWords edition (drop from (words block.now))) }
+    ensures { Counts result (reading_words edition (drop from (words block.now))) }
 {
     let mut count = 0;
     if edition != READINGS_EDITION as u32 {

@@ -6,88 +6,88 @@ use mathlib.Core.Path.{◌≡◌, refl, sym, ◌∙◌, ap}
 use Prim.Native.Nat.{ℕ, ◌≤◌, ◌<◌}
 use lib.IntN.{ℤ}
 use lib.ListN.{length}
-use Rattle.rounding.specs.Limits.{knotsMax}
+use Rattle.rounding.specs.Limits.{knots_max}
 use Rattle.scans.specs.RefusalTable.{first}
 use Rattle.scans.specs.Combination.{combination}
-use Rattle.scans.specs.Order.{combinationCauses}
+use Rattle.scans.specs.Order.{combination_causes}
 use Rattle.scans.proofs.Combination.{sum-standing}
 use Rattle.knot.specs.Machine.{Filled, Graded, number as refusalNumber}
 use Rattle.knot.specs.declared.table.Refusal.{Refusal}
 use Rattle.calls.specs.Calls.{Call, accepted, number, causes, changed, changes, says, lent, filled}
 use Rattle.calls.proofs.Combination.{refused-sum-replies, refused-sum-leaves, sum-replies, sum-leaves}
-use Rattle.calls.proofs.Effects.{refusal-replies, refusal-leaves, refusal-writes, acceptance-replies, acceptance-leaves, acceptance-writes}
-use Rattle.reel.specs.Machine.{scans, knotAt, Held, Does, Combines}
+use Rattle.calls.proofs.Effects.{refusal-replies, refusal-leaves, refusal-writes, acceptance_replies, acceptance_leaves, acceptance_writes}
+use Rattle.reel.specs.Machine.{scans, knot_at, Held, Does, Combines}
 use Rattle.reel.specs.declared.held.Reel.{Reel}
 use Rattle.reel.specs.declared.answer.Answer.TheVariants as Answers
 use Rattle.reel.specs.declared.answer.Handed.{Handed}
 use Rattle.calls.proofs.Standing.{standing-after}
 
 -- a refused call leaves the reel itself and the output that was lent
-refuses-by : (call : Call) (r : Reel) (cause : Refusal) → Held r → first (causes call (scans r)) ≡ some (refusalNumber cause) →
+refuses_by : (call : Call) (r : Reel) (cause : Refusal) → Held r → first (causes call (scans r)) ≡ some (refusalNumber cause) →
     Does call r (Answers.Refused cause) r (lent call)
-refuses-by call r cause held e = record {
+refuses_by call r cause held e = record {
   replies = sym (refusal-replies call (scans r) e);
   leaves = sym (refusal-leaves call (scans r) e);
   held = held;
-  refusalKeeps = λ n q. refl;
-  noChangeKeeps = λ q. refl;
+  refusal_keeps = λ n q. refl;
+  no_change_keeps = λ q. refl;
   writes = sym (refusal-writes call (scans r) e);
 }
 
 -- and so does what `refused` hands over
 pub refuses : (call : Call) (r : Reel) (cause : Refusal) (handed : Handed) → Held r → (handed.reel ≡ r) × (handed.answer ≡ Answers.Refused cause) →
     first (causes call (scans r)) ≡ some (refusalNumber cause) → Does call r handed.answer handed.reel (lent call)
-refuses call r cause handed held is e = rw (is.0, is.1) (refuses-by call r cause held e)
+refuses call r cause handed held is e = rw (is.0, is.1) (refuses_by call r cause held e)
 
 -- an accepted one, of those that change the list and are lent no output
 pub accepts : (call : Call) (r next : Reel) → Held r → first (causes call (scans r)) ≡ none → changes call ≡ true →
     says call (scans r) ≡ accepted → filled call (scans r) ≡ [] →
-    scans next ≡ changed call (scans r) → length next.knots ≡ knotsMax → next.count ≤ knotsMax →
-    ((k : ℕ) → k < next.count → Graded (knotAt next k)) → Does call r Answers.Accepted next []
+    scans next ≡ changed call (scans r) → length next.knots ≡ knots_max → next.count ≤ knots_max →
+    ((k : ℕ) → k < next.count → Graded (knot_at next k)) → Does call r Answers.Accepted next []
 accepts call r next held e does answer none_lent is room count graded =
-    let leaves = is ∙ sym (acceptance-leaves call (scans r) e) in
+    let leaves = is ∙ sym (acceptance_leaves call (scans r) e) in
     record {
-      replies = sym (acceptance-replies call (scans r) e ∙ answer);
+      replies = sym (acceptance_replies call (scans r) e ∙ answer);
       leaves = leaves;
       held = record { filled = record { room = room; count = count; graded = graded }; standing = rw leaves (standing-after call (scans r) held.standing) };
-      refusalKeeps = λ n q. cc q;
-      noChangeKeeps = λ q. absurd (true≢false (sym does ∙ q));
-      writes = sym (acceptance-writes call (scans r) e ∙ none_lent);
+      refusal_keeps = λ n q. cc q;
+      no_change_keeps = λ q. absurd (true≢false (sym does ∙ q));
+      writes = sym (acceptance_writes call (scans r) e ∙ none_lent);
     }
 
 -- one that answers a number and leaves the reel itself
 pub answers : (call : Call) (r : Reel) (z w : ℤ) (out : List ℕ) → Held r → first (causes call (scans r)) ≡ none → says call (scans r) ≡ number w →
     z ≡ w → changed call (scans r) ≡ scans r → out ≡ filled call (scans r) → Does call r (Answers.Number z) r out
 answers call r z w out held e answer is stays fills = record {
-  replies = ap number is ∙ sym (acceptance-replies call (scans r) e ∙ answer);
-  leaves = sym (acceptance-leaves call (scans r) e ∙ stays);
+  replies = ap number is ∙ sym (acceptance_replies call (scans r) e ∙ answer);
+  leaves = sym (acceptance_leaves call (scans r) e ∙ stays);
   held = held;
-  refusalKeeps = λ n q. refl;
-  noChangeKeeps = λ q. refl;
-  writes = fills ∙ sym (acceptance-writes call (scans r) e);
+  refusal_keeps = λ n q. refl;
+  no_change_keeps = λ q. refl;
+  writes = fills ∙ sym (acceptance_writes call (scans r) e);
 }
 
 -- ---- the sum of two reels
 
 module _ (α β : ℤ) (r other : Reel) (held : Held r) where
-  sum-refuses-by : (cause : Refusal) → first (combinationCauses α β (scans r) (scans other)) ≡ some (refusalNumber cause) →
+  sum-refuses_by : (cause : Refusal) → first (combination_causes α β (scans r) (scans other)) ≡ some (refusalNumber cause) →
       Combines α β r other (Answers.Refused cause) r
-  sum-refuses-by cause e = record {
+  sum-refuses_by cause e = record {
     replies = sym (refused-sum-replies α β (scans r) (scans other) e);
     leaves = sym (refused-sum-leaves α β (scans r) (scans other) e);
     held = held;
-    refusalKeeps = λ n q. refl;
+    refusal_keeps = λ n q. refl;
   }
 
   pub sum-refuses : (cause : Refusal) (handed : Handed) → (handed.reel ≡ r) × (handed.answer ≡ Answers.Refused cause) →
-      first (combinationCauses α β (scans r) (scans other)) ≡ some (refusalNumber cause) → Combines α β r other handed.answer handed.reel
-  sum-refuses cause handed is e = rw (is.0, is.1) (sum-refuses-by cause e)
+      first (combination_causes α β (scans r) (scans other)) ≡ some (refusalNumber cause) → Combines α β r other handed.answer handed.reel
+  sum-refuses cause handed is e = rw (is.0, is.1) (sum-refuses_by cause e)
 
-  pub sum-accepts : (next : Reel) → Held other → first (combinationCauses α β (scans r) (scans other)) ≡ none →
+  pub sum-accepts : (next : Reel) → Held other → first (combination_causes α β (scans r) (scans other)) ≡ none →
       scans next ≡ combination α β (scans r) (scans other) → Filled next.knots next.count → Combines α β r other Answers.Accepted next
   sum-accepts next held-other e is filled = record {
     replies = sym (sum-replies α β (scans r) (scans other) e);
     leaves = is ∙ sym (sum-leaves α β (scans r) (scans other) e);
     held = record { filled = filled; standing = rw is (sum-standing α β (scans r) (scans other) e held.standing held-other.standing) };
-    refusalKeeps = λ n q. cc q;
+    refusal_keeps = λ n q. cc q;
   }

@@ -19,13 +19,13 @@ pub near-exact : (D N : ℕ) (u : ℤ) → Near D N 0 (pos (D ^ N) *ℤ u) u
 near-exact D N u = record { twice = rw (+ℤ_invr (pos (D ^ N) *ℤ u)) (omega arith) }
 
 -- the same number otherwise written, and a wider bound
-pub near-as : {D N N' k k' : ℕ} {Z Z' u : ℤ} → N ≡ N' → k ≤ k' → Z ≡ Z' → Near D N k Z u → Near D N' k' Z' u
-near-as {D} {N} i h e near = rw (← i, ← e) (record { twice = le_trans near.twice (mul-le-mul_right (D ^ N) h) })
+pub near_as : {D N N' k k' : ℕ} {Z Z' u : ℤ} → N ≡ N' → k ≤ k' → Z ≡ Z' → Near D N k Z u → Near D N' k' Z' u
+near_as {D} {N} i h e near = rw (← i, ← e) (record { twice = le_trans near.twice (mul-le-mul_right (D ^ N) h) })
 
 -- before the first rounding
 pub near-start : (D : ℕ) (u : ℤ) → Near D 0 0 u u
 unfolding one
-near-start D u = near-as refl (le_refl 0) (rw pow-zero (one-*ℤ u)) (near-exact D 0 u)
+near-start D u = near_as refl (le_refl 0) (rw pow-zero (one-*ℤ u)) (near-exact D 0 u)
 
 -- the size of a sum
 sum-most : (x y : ℤ) → nat_abs (x +ℤ y) ≤ nat_abs x + nat_abs y

@@ -11,25 +11,25 @@ use Prim.Native.Nat.{ℕ, suc, ◌+◌, ◌-◌, ◌*◌, ◌≤◌, ◌<◌}
 use native.Mathlib.Omega.{arith}
 use lib.IntN.{ℤ}
 use lib.ListN.{length, get_or, drop, set}
-use Rattle.rounding.specs.Limits.{knotsMax, gradeMax, gapMax}
+use Rattle.rounding.specs.Limits.{knots_max, grade_max, gap_max}
 use Rattle.scans.specs.Scan.{gap, Scan}
-use Rattle.scans.specs.SizeRule.{Product, appendProducts, turnProducts, firstTooLarge}
+use Rattle.scans.specs.SizeRule.{Product, append_products, turn_products, first_too_large}
 use Rattle.scans.specs.RefusalTable.{first}
 use Rattle.scans.specs.Reason.{reason}
-use Rattle.knot.specs.Machine.{scan, refusal, spotIn, Numbers}
+use Rattle.knot.specs.Machine.{scan, refusal, spot_in, Numbers}
 use Rattle.following.specs.Machine.{neighbour}
 use Rattle.knot.specs.declared.held.Knot.{Knot}
 use Rattle.knot.specs.declared.reason.Reason.TheVariants as Reasons
 use Rattle.knot.specs.declared.table.Refusal.TheVariants as Refusals
 use Rattle.scans.proofs.Causes.{quiet, placed}
-use Rattle.scans.proofs.Reason.{no-reason}
+use Rattle.scans.proofs.Reason.{no_reason}
 use Rattle.knot.proofs.Numbers.{numbers, passed, failed}
 use Rattle.block.specs.Fields.{kind, position, grade, payload}
 use Rattle.block.specs.Bytes.{words}
-use Rattle.block.specs.Reading.{readingWords, knotCauses, readingCauses, endCauses, knotsCauses, knotsFrom}
+use Rattle.block.specs.Reading.{reading_words, knot_causes, reading_causes, end_causes, knots_causes, knots_from}
 use Rattle.block.proofs.Reason.{reading-others, end-others}
 use Rattle.block.proofs.Steps.{knot-found}
-use Rattle.block.proofs.Written.{knotWordsMax}
+use Rattle.block.proofs.Written.{knot_words_max}
 use Rattle.block_reader.proofs.reader.Come.{fault, tested, Come, Coefficients, refuses, too_large, none_yet, one_more, next, from_wrong}
 use Rattle.block_reader.proofs.reader.Come.{from-size-found, reason-found, from-readings-found, taken, ended}
 use Rattle.block_reader.proofs.reader.read_knots.Statement.{statement}
@@ -53,7 +53,7 @@ free-requires c κs = search rules
 
 -- ---- nothing read yet
 
-nothing_yet : (e : ℕ) (ws : List ℕ) (count : ℕ) (knots : List Knot) (free : Knot) → length knots ≡ knotsMax →
+nothing_yet : (e : ℕ) (ws : List ℕ) (count : ℕ) (knots : List Knot) (free : Knot) → length knots ≡ knots_max →
     Come e ws count knots (record { there = false; knot = free }) 0 1
 nothing_yet e ws count knots free room =
     let all : count ≡ count - 0 = omega arith in
@@ -62,10 +62,10 @@ nothing_yet e ws count knots free room =
       place = omega arith;
       room = room;
       graded = λ j h. absurd (omega arith);
-      lastGraded = λ t. absurd (true≢false (sym t));
-      faults = ap (λ n. first (knotsCauses e (length ws - 1) 0 n none (drop 1 ws))) all;
-      scans = ap (λ n. knotsFrom e n (drop 1 ws)) all;
-      sizes = ap (λ n. firstTooLarge (turnProducts 0 none (knotsFrom e n (drop 1 ws)))) all;
+      last_graded = λ t. absurd (true≢false (sym t));
+      faults = ap (λ n. first (knots_causes e (length ws - 1) 0 n none (drop 1 ws))) all;
+      scans = ap (λ n. knots_from e n (drop 1 ws)) all;
+      sizes = ap (λ n. first_too_large (turn_products 0 none (knots_from e n (drop 1 ws)))) all;
     }
 
 words-holds : tie.Need-words-init invariant-loop decreases-loop invariant-words decreases-words
@@ -96,20 +96,20 @@ the-count w = w.before.before.before.args.count
 
 module _ (g : After-grade) where
   -- the knot word is accepted
-  word-passed : first (knotCauses (neighbour (between g).words.new) (get_or (the-words (between g)) (between g).words.i 0)) ≡ none
+  word-passed : first (knot_causes (neighbour (between g).words.new) (get_or (the-words (between g)) (between g).words.i 0)) ≡ none
   word-passed =
       let n = g.before.before in
       let l = n.before.before in
-      sym (ap (λ u. first (knotCauses (neighbour (between g).words.new) u)) l.load.ensures.0) ∙ sym n.before.knot-fault.ensures ∙
+      sym (ap (λ u. first (knot_causes (neighbour (between g).words.new) u)) l.load.ensures.0) ∙ sym n.before.knot-fault.ensures ∙
       passed n.number2.ensures g.before.if2.false
 
   grade-is : g.grade.result ≡ grade (get_or (the-words (between g)) (between g).words.i 0)
   grade-is = g.grade.ensures ∙ ap grade g.before.before.before.before.load.ensures.0
 
-  grade-most : g.grade.result ≤ gradeMax
+  grade-most : g.grade.result ≤ grade_max
   grade-most = omega (arith, g.grade.ensures)
 
-  count_most : the-count (between g) ≤ knotsMax
+  count_most : the-count (between g) ≤ knots_max
   count_most = (between g).before.before.before.pre
 
   one-more-knot : (between g).words.k < the-count (between g)
@@ -206,8 +206,8 @@ abbrev word_read : After-position → After-grade
 word_read c = c.before.before.before
 
 module _ (c : After-position) where
-  position-is : c.position.result ≡ position (get_or (the-words (between (word_read c))) (between (word_read c)).words.i 0)
-  position-is = c.position.ensures ∙ ap position (word_read c).before.before.before.before.load.ensures.0
+  position_is : c.position.result ≡ position (get_or (the-words (between (word_read c))) (between (word_read c)).words.i 0)
+  position_is = c.position.ensures ∙ ap position (word_read c).before.before.before.before.load.ensures.0
 
   all_read : Coefficients (the-words (between (word_read c))) (between (word_read c)).words.i (word_read c).grade.result
       c.before.before.loop.coefficients ((word_read c).grade.result + 1)
@@ -218,16 +218,16 @@ module _ (c : After-position) where
       rw e at l.invariant
 
   -- the last knot, if there is one, lies at most 16 steps before it
-  close : (between (word_read c)).words.new.there ≡ true → gap (scan (between (word_read c)).words.new.knot) c.position.result ≤ gapMax
+  close : (between (word_read c)).words.new.there ≡ true → gap (scan (between (word_read c)).words.new.knot) c.position.result ≤ gap_max
   close there =
       let g = word_read c in
       let last = (between g).words.last in
       let x = position (get_or (the-words (between g)) (between g).words.i 0) in
-      let q = quiet (knotCauses (neighbour last) (get_or (the-words (between g)) (between g).words.i 0)) (word-passed g) in
-      moved (scan last.knot) position-is ((placed (neighbour last) x q.1.0 q.1.1.0).near (scan last.knot)
+      let q = quiet (knot_causes (neighbour last) (get_or (the-words (between g)) (between g).words.i 0)) (word-passed g) in
+      moved (scan last.knot) position_is ((placed (neighbour last) x q.1.0 q.1.1.0).near (scan last.knot)
       (ap (λ b. neighbour (record { there = b; knot = last.knot })) there))
     where
-      moved : {x y : ℕ} (held : Scan) → x ≡ y → gap held y ≤ gapMax → gap held x ≤ gapMax
+      moved : {x y : ℕ} (held : Scan) → x ≡ y → gap held y ≤ gap_max → gap held x ≤ gap_max
       moved held e h = rw e h
 
 cast-t36 : tie.Need-overflow-cast-t36 invariant-loop decreases-loop invariant-words decreases-words
@@ -242,7 +242,7 @@ cast-follow-reason c = let g = word_read c in record { fits = omega (arith, one-
 follow-reason-requires : tie.Need-follow-reason-requires invariant-loop decreases-loop invariant-words decreases-words
 follow-reason-requires c κs =
     let g = word_read c in
-    let last = (between g).words.inv.0.lastGraded in
+    let last = (between g).words.inv.0.last_graded in
     (record { room = c.before.before.loop.invariant.room; grade = grade-most g }, λ t. ((last t).0, omega (arith, (last t).1, one-more-knot g)), close c)
 
 enum-known-spot : tie.Need-enum-known-spot invariant-loop decreases-loop invariant-words decreases-words
@@ -263,18 +263,18 @@ abbrev all-read-at : Kept → After-position
 all-read-at c = c.before.before.before
 
 module _ (c : Kept) where
-  kept : firstTooLarge (appendProducts (between (word_read (all-read-at c))).words.k (neighbour (between (word_read (all-read-at c))).words.new)
+  kept : first_too_large (append_products (between (word_read (all-read-at c))).words.k (neighbour (between (word_read (all-read-at c))).words.new)
       (scan (next (all-read-at c).position.result (word_read (all-read-at c)).grade.result (all-read-at c).before.before.loop.coefficients))) ≡ none
-  kept = sym c.before.before.follow-reason.ensures ∙ ap spotIn c.enum_told.given.1
+  kept = sym c.before.before.follow-reason.ensures ∙ ap spot_in c.enum_told.given.1
 
   -- where its readings start
   abbrev start : ℕ
   start = (between (word_read (all-read-at c))).words.i + (word_read (all-read-at c)).grade.result + 2
 
   abbrev the-readings : List ℕ
-  the-readings = let w = between (word_read (all-read-at c)) in readingWords (the-edition w) (drop start (the-words w))
+  the-readings = let w = between (word_read (all-read-at c)) in reading_words (the-edition w) (drop start (the-words w))
 
-  near : start ≤ knotWordsMax * knotsMax
+  near : start ≤ knot_words_max * knots_max
   near =
       let g = word_read (all-read-at c) in
       omega (arith, (between g).words.inv.0.place, one-more-knot g, count_most g, grade-most g)
@@ -288,7 +288,7 @@ words-again c =
     let counts = r.count-readings.ensures in
     let quiet = passed counts.number c.before.if3.false in (
       taken (the-edition w) (the-words w) (the-count w) w.words.knots w.words.last w.words.k w.words.i w.words.inv.0 (one-more-knot g)
-          p.position.result g.grade.result p.before.before.loop.coefficients (word-passed g) (position-is p) (grade-is g) (all_read p)
+          p.position.result g.grade.result p.before.before.loop.coefficients (word-passed g) (position_is p) (grade-is g) (all_read p)
           (kept r.before) r.count-readings.result.count (counts.count quiet) (count_most g) (grade-most g) counts.few quiet,
       w.words.inv.1,
     )
@@ -321,7 +321,7 @@ words-less c = let g = word_read (all-read-at c.before.before.before) in omega (
 
 -- what is ahead of the words, with n knots to come
 abbrev ahead : At-words → ℕ → Option ℕ
-ahead w n = first (knotsCauses (the-edition w) (length (the-words w) - 1) w.words.k n (neighbour w.words.last) (drop w.words.i (the-words w)))
+ahead w n = first (knots_causes (the-edition w) (length (the-words w) - 1) w.words.k n (neighbour w.words.last) (drop w.words.i (the-words w)))
 
 -- the products that are tested
 abbrev all_tested : At-words → List Product
@@ -334,7 +334,7 @@ returns c =
     let come = w.words.invariant.0 in
     let all : w.words.k ≡ the-count w = omega (arith, t.if1.true, come.within) in
     let rest : the-count w - w.words.k ≡ 0 = omega (arith, all) in
-    let end : fault (the-edition w) (the-words w) (the-count w) ≡ first (endCauses (length (the-words w) - 1) (drop w.words.i (the-words w))) =
+    let end : fault (the-edition w) (the-words w) (the-count w) ≡ first (end_causes (length (the-words w) - 1) (drop w.words.i (the-words w))) =
     come.faults ∙ ap (λ n. ahead w n) rest in
     let ends : fault (the-edition w) (the-words w) (the-count w) ≡ refusal c.before.end-fault.result = end ∙ sym c.before.end-fault.ensures in
     record {
@@ -343,8 +343,8 @@ returns c =
       count = w.before.before.before.requires;
       graded = λ q k h. come.graded k (omega (arith, all));
       scans = λ q. ended (the-edition w) (the-words w) (the-count w) w.words.knots w.words.new w.words.k w.words.i come all;
-      reason = ap spotIn w.words.invariant.1 ∙
-          sym (ap (λ f. reason f (all_tested w)) end ∙ no-reason (endCauses (length (the-words w) - 1) (drop w.words.i (the-words w))) (all_tested w)
+      reason = ap spot_in w.words.invariant.1 ∙
+          sym (ap (λ f. reason f (all_tested w)) end ∙ no_reason (end_causes (length (the-words w) - 1) (drop w.words.i (the-words w))) (all_tested w)
           (end-others (length (the-words w) - 1) (drop w.words.i (the-words w))));
     }
 
@@ -360,10 +360,10 @@ returns-2 c =
     (come.faults ∙ ap (λ m. ahead w m) one ∙
     knot-found (the-edition w) (length (the-words w) - 1) w.words.k (the-count w - (w.words.k + 1)) (neighbour w.words.new) (the-words w)
     w.words.i
-    (sym (ap (λ u. first (knotCauses (neighbour w.words.new) u)) l.load.ensures.0) ∙ sym n.before.knot-fault.ensures ∙ e))
+    (sym (ap (λ u. first (knot_causes (neighbour w.words.new) u)) l.load.ensures.0) ∙ sym n.before.knot-fault.ensures ∙ e))
     come.room w.before.before.before.requires w.words.invariant.1
     (ap (λ f. reason f (all_tested w)) n.before.knot-fault.ensures ∙
-    no-reason (knotCauses (neighbour w.words.new) l.load.result) (all_tested w) (refl, (refl, (refl, tt))))
+    no_reason (knot_causes (neighbour w.words.new) l.load.result) (all_tested w) (refl, (refl, (refl, tt))))
 
 returns-3 : tie.Need-returns-3 invariant-loop decreases-loop invariant-words decreases-words
 returns-3 c =
@@ -388,13 +388,13 @@ returns-4 c =
     let p = f.before in
     let g = word_read p in
     let w = between g in
-    let found = sym f.follow-reason.ensures ∙ ap spotIn c.before.before.spot.given.1 in
+    let found = sym f.follow-reason.ensures ∙ ap spot_in c.before.before.spot.given.1 in
     too_large _ (fault (the-edition w) (the-words w) (the-count w)) _ c.number4.ensures
     (from-size-found (the-edition w) (the-words w) (the-count w) w.words.knots w.words.last w.words.k w.words.i w.words.inv.0
-    (one-more-knot g) p.position.result g.grade.result p.before.before.loop.coefficients (word-passed g) (position-is p) (grade-is g) (all_read p)
+    (one-more-knot g) p.position.result g.grade.result p.before.before.loop.coefficients (word-passed g) (position_is p) (grade-is g) (all_read p)
     found)
     (reason-found (the-edition w) (the-words w) (the-count w) w.words.knots w.words.last w.words.k w.words.i w.words.inv.0
-    (one-more-knot g) p.position.result g.grade.result p.before.before.loop.coefficients (word-passed g) (position-is p) (grade-is g) (all_read p)
+    (one-more-knot g) p.position.result g.grade.result p.before.before.loop.coefficients (word-passed g) (position_is p) (grade-is g) (all_read p)
     found)
     refl w.words.inv.0.room (count_most g)
 
@@ -405,12 +405,12 @@ returns-5 c =
     let g = word_read p in
     let w = between g in
     let h = failed r.count-readings.result.refusal r.count-readings.ensures.number c.if3.true in
-    refuses _ (fault (the-edition w) (the-words w) (the-count w)) (first (readingCauses 0 (the-readings r.before))) _ r.count-readings.ensures.number h
+    refuses _ (fault (the-edition w) (the-words w) (the-count w)) (first (reading_causes 0 (the-readings r.before))) _ r.count-readings.ensures.number h
     (from-readings-found (the-edition w) (the-words w) (the-count w) w.words.knots w.words.last w.words.k w.words.i w.words.inv.0
-    (one-more-knot g) p.position.result g.grade.result p.before.before.loop.coefficients (word-passed g) (position-is p) (grade-is g)
+    (one-more-knot g) p.position.result g.grade.result p.before.before.loop.coefficients (word-passed g) (position_is p) (grade-is g)
     (all_read p) (kept r.before) h)
     w.words.inv.0.room (count_most g) w.words.inv.1
-    (no-reason (readingCauses 0 (the-readings r.before)) (all_tested w) (reading-others 0 (the-readings r.before)))
+    (no_reason (reading_causes 0 (the-readings r.before)) (all_tested w) (reading-others 0 (the-readings r.before)))
 
 pub read-knots-spec : {M : Type 1} → statement M
 read-knots-spec =

@@ -1,9 +1,9 @@
 -- `block_writer::writer::length` meets its contract.
 use Prim.Native.Nat.{◌-◌}
 use native.Mathlib.Omega.{arith}
-use Rattle.knot.specs.Machine.{Graded, knotIn, scansIn}
-use Rattle.block.proofs.Written.{block_words}
-use Rattle.block_writer.proofs.writer.Stored.{Counted, none-counted, one-counted, all-counted}
+use Rattle.knot.specs.Machine.{Graded, knot_in, scans_in}
+use Rattle.block.proofs.Written.{block_words_lem}
+use Rattle.block_writer.proofs.writer.Stored.{Counted, none_counted, one-counted, all-counted}
 use Rattle.block_writer.proofs.writer.length.Statement.{statement}
 use Rattle.block_writer.proofs.writer.length.Tie as tie
 
@@ -14,7 +14,7 @@ abbrev decreases-loop : tie.decreases-loop
 decreases-loop count knots words₀ k₀ words k = count - k
 
 loop-holds : tie.Need-loop-init invariant-loop decreases-loop
-loop-holds c = none-counted c.args.t1 c.args.count 2
+loop-holds c = none_counted c.args.t1 c.args.count 2
 
 mul-knot : tie.Need-overflow-mul-knot invariant-loop decreases-loop
 mul-knot c = record { fits = omega (arith, c.loop-test.true, c.before.before.requires.count) }
@@ -22,7 +22,7 @@ mul-knot c = record { fits = omega (arith, c.loop-test.true, c.before.before.req
 array-copy-out-knot : tie.Need-array-copy-out-knot invariant-loop decreases-loop
 array-copy-out-knot c = omega (arith, c.loop-test.true, c.before.before.requires.count)
 
-graded : (c : tie.After-struct-known invariant-loop decreases-loop) → let l = c.before.before.before in Graded (knotIn l.before.args.t1 l.loop.k)
+graded : (c : tie.After-struct-known invariant-loop decreases-loop) → let l = c.before.before.before in Graded (knot_in l.before.args.t1 l.loop.k)
 graded c = let t = c.before.before in t.before.before.requires.graded t.before.loop.k t.loop-test.true
 
 cast-words : tie.Need-overflow-cast-words invariant-loop decreases-loop
@@ -57,7 +57,7 @@ returns c =
     let l = c.before in
     let s = l.before in
     let all = all-counted s.args.t1 s.args.count s.requires 2 l.loop.k l.loop.words l.loop.invariant c.loop-test.false in
-    omega (arith, all, block_words (scansIn s.args.count s.args.t1))
+    omega (arith, all, block_words_lem (scans_in s.args.count s.args.t1))
 
 pub length_spec : {M : Type 1} → statement M
 length_spec =

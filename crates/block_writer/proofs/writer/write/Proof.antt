@@ -5,12 +5,12 @@ use Prim.Native.Nat.{◌+◌, ◌-◌, ◌*◌, ◌≤◌}
 use native.Mathlib.Omega.{arith}
 use lib.ListN.{length}
 use lib.Seq.{length-sets}
-use Rattle.rounding.specs.Limits.{knotsMax}
+use Rattle.rounding.specs.Limits.{knots_max}
 use Rattle.scans.specs.Scan.{Scan}
-use Rattle.knot.specs.Machine.{scansIn}
-use Rattle.block.specs.Block.{knotsWords}
-use Rattle.block.proofs.Written.{block_words}
-use Rattle.block_writer.proofs.writer.Stored.{one-counted, all-counted, Knots, no_knot, one-knot, block-stored}
+use Rattle.knot.specs.Machine.{scans_in}
+use Rattle.block.specs.Block.{knots_words}
+use Rattle.block.proofs.Written.{block_words_lem}
+use Rattle.block_writer.proofs.writer.Stored.{one-counted, all-counted, Knots, no_knot_lem, one-knot, block_stored}
 use Rattle.block_writer.proofs.writer.write.Statement.{statement}
 use Rattle.block_writer.proofs.writer.write.Tie as tie
 
@@ -23,7 +23,7 @@ decreases-loop count out₀ knots i₀ k₀ out i k = count - k
 -- ---- the header
 
 abbrev scansOf : tie.Start invariant-loop decreases-loop → List Scan
-scansOf s = scansIn s.args.count s.args.t1
+scansOf s = scans_in s.args.count s.args.t1
 
 cast-header-word : tie.Need-overflow-cast-header-word invariant-loop decreases-loop
 cast-header-word c = record { fits = omega (arith, c.before.before.requires.0.count) }
@@ -32,10 +32,10 @@ header-word-requires : tie.Need-header-word-requires invariant-loop decreases-lo
 header-word-requires c κs = tt
 
 store-requires : tie.Need-store-requires invariant-loop decreases-loop
-store-requires c κs = let s = c.before.before.before in omega (arith, s.requires.1, block_words (scansOf s))
+store-requires c κs = let s = c.before.before.before in omega (arith, s.requires.1, block_words_lem (scansOf s))
 
 loop-holds : tie.Need-loop-init invariant-loop decreases-loop
-loop-holds c = let s = c.before.before.before.before.before.before in no_knot _ s.args.t1 s.args.count
+loop-holds c = let s = c.before.before.before.before.before.before in no_knot_lem _ s.args.t1 s.args.count
 
 -- ---- the knots
 
@@ -50,10 +50,10 @@ module _ (l : At-loop) where
   as_long : length l.loop.out ≡ length (entered l).args.out.now
   as_long = l.loop.invariant.left.same ∙ ap length l.before.before.before.store.ensures ∙ simp length-sets
 
-  fitting : 4 * (2 + length (knotsWords (scansOf (entered l)))) ≤ length l.loop.out
-  fitting = omega (arith, as_long, (entered l).pre.1, block_words (scansOf (entered l)))
+  fitting : 4 * (2 + length (knots_words (scansOf (entered l)))) ≤ length l.loop.out
+  fitting = omega (arith, as_long, (entered l).pre.1, block_words_lem (scansOf (entered l)))
 
-  small : l.loop.i ≤ 9 * knotsMax + 1
+  small : l.loop.i ≤ 9 * knots_max + 1
   small = let come = l.loop.inv.counted in omega (arith, come.place, come.within, (entered l).pre.0.count)
 
 mul-knot : tie.Need-overflow-mul-knot invariant-loop decreases-loop
@@ -87,7 +87,7 @@ loop-again c =
 
 -- ---- the end word
 
-counted : (c : tie.After-loop invariant-loop decreases-loop) → let l = c.before in l.loop.i ≡ 1 + length (knotsWords (scansOf (entered l)))
+counted : (c : tie.After-loop invariant-loop decreases-loop) → let l = c.before in l.loop.i ≡ 1 + length (knots_words (scansOf (entered l)))
 counted c =
     let l = c.before in
     let s = entered l in
@@ -120,8 +120,8 @@ returns c =
     let l = e.before in
     let s = entered l in
     let h = l.before.before.before in (
-      omega (arith, counted e, block_words (scansOf s)),
-      block-stored _ s.args.t1 s.args.count s.pre.0 l.loop.out l.loop.i l.loop.k l.loop.invariant e.loop-test.false
+      omega (arith, counted e, block_words_lem (scansOf s)),
+      block_stored _ s.args.t1 s.args.count s.pre.0 l.loop.out l.loop.i l.loop.k l.loop.invariant e.loop-test.false
           s.args.out.now _
           h.before.header-word.result w.before.end-word.result h.before.header-word.ensures h.store.ensures
           w.before.end-word.ensures w.store2.ensures s.pre.1,

@@ -5,7 +5,7 @@ use native.Mathlib.Omega.{arith}
 use lib.ListN.{length}
 use lib.Seq.{length-sets}
 use mir.Facts.{to_z-of_z}
-use Rattle.block_writer.proofs.writer.Stored.{Coefficients, none-stored, one-stored, knot-stored}
+use Rattle.block_writer.proofs.writer.Stored.{Coefficients, none_stored, one_stored, knot_stored}
 use Rattle.block_writer.proofs.writer.write_knot.Statement.{statement}
 use Rattle.block_writer.proofs.writer.write_knot.Tie as tie
 
@@ -27,7 +27,7 @@ store-requires : tie.Need-store-requires invariant-loop decreases-loop
 store-requires c κs = omega (arith, c.before.before.before.before.before.requires.1)
 
 loop-holds : tie.Need-loop-init invariant-loop decreases-loop
-loop-holds c = let s = c.before.before.before.before.before.before.before.before in none-stored _ s.args.i s.args.knot
+loop-holds c = let s = c.before.before.before.before.before.before.before.before in none_stored _ s.args.i s.args.knot
 
 -- ---- its coefficient words
 
@@ -71,7 +71,7 @@ loop-again c =
     let t = w.before.before.before in
     let l = t.before in
     let s = entered l in
-    one-stored _ s.args.i s.args.knot s.pre.0 l.loop.out l.loop.j l.loop.invariant t.loop-test.true _ w.coefficient-word.result
+    one_stored _ s.args.i s.args.knot s.pre.0 l.loop.out l.loop.j l.loop.invariant t.loop-test.true _ w.coefficient-word.result
     (rw (to_z-of_z (record { sfits = w.before.coefficient-word-arg.given })) at w.coefficient-word.ensures) c.before.before.store2.ensures
 
 add-result : tie.Need-overflow-add-result invariant-loop decreases-loop
@@ -89,7 +89,7 @@ returns c =
     let s = entered l in
     let w = l.before.before.before in (
       refl,
-      knot-stored _ s.args.i s.args.knot s.pre.0 l.loop.out l.loop.j l.loop.invariant c.loop-test.false s.args.out.now
+      knot_stored _ s.args.i s.args.knot s.pre.0 l.loop.out l.loop.j l.loop.invariant c.loop-test.false s.args.out.now
           w.before.knot-word.result w.before.knot-word.ensures w.store.ensures,
     )
 

@@ -6,10 +6,10 @@ use Prim.Native.Nat.{ℕ, suc, ◌+◌, ◌-◌, ◌*◌, ◌/◌, ◌≤◌, �
 use native.Mathlib.Omega.{arith}
 use lib.ListN.{length}
 use Rattle.scans.specs.Scan.{Scan}
-use Rattle.knot.specs.Machine.{knotIn, scansIn}
+use Rattle.knot.specs.Machine.{knot_in, scans_in}
 use Rattle.scans.specs.Standing.{Standing}
-use Rattle.scans.specs.Pieces.{mark, place_in, is_last, valuePlace, Lies}
-use Rattle.chain.proofs.Knots.{count-is, mark-at}
+use Rattle.scans.specs.Pieces.{mark, place_in, is_last, value_place, Lies}
+use Rattle.chain.proofs.Knots.{count_is, mark_at}
 use Rattle.scans.proofs.Pieces.{lies_in, lies-one, value-lies}
 use Rattle.chain.proofs.place.piece_at.Statement.{statement}
 use Rattle.chain.proofs.place.piece_at.Tie as tie
@@ -23,14 +23,14 @@ record Narrowed (scans : List Scan) (x low high : ℕ) : Type 0 where
   last : mark scans high ≤ x → suc high ≡ length scans
 
 abbrev invariant-loop : tie.invariant-loop
-invariant-loop count x knots low₀ high₀ low high = Narrowed (scansIn count knots) x low high
+invariant-loop count x knots low₀ high₀ low high = Narrowed (scans_in count knots) x low high
 
 abbrev decreases-loop : tie.decreases-loop
 decreases-loop count x knots low₀ high₀ low high = high - low
 
 -- there are as many scans as knots
-counted : (c : tie.Start invariant-loop decreases-loop) → length (scansIn c.args.count c.args.t1) ≡ c.args.count
-counted c = count-is c.args.t1 c.args.count c.requires.chained
+counted : (c : tie.Start invariant-loop decreases-loop) → length (scans_in c.args.count c.args.t1) ≡ c.args.count
+counted c = count_is c.args.t1 c.args.count c.requires.chained
 
 sub-high : tie.Need-overflow-sub-high invariant-loop decreases-loop
 sub-high c = omega (arith, c.requires.within.two, counted c)
@@ -71,11 +71,11 @@ mul-if1 c = search rules
 
 -- the scan in the middle
 middle : (c : tie.After-struct-known invariant-loop decreases-loop) → let l = c.before.before.before in
-    mark (scansIn l.before.args.count l.before.args.t1) (l.loop.low + (l.loop.high - l.loop.low) / 2) ≡ 256 * (knotIn
+    mark (scans_in l.before.args.count l.before.args.t1) (l.loop.low + (l.loop.high - l.loop.low) / 2) ≡ 256 * (knot_in
     l.before.args.t1 (l.loop.low + (l.loop.high - l.loop.low) / 2)).position
 middle c =
     let l = c.before.before.before in
-    mark-at l.before.args.t1 l.before.args.count l.before.requires.chained _
+    mark_at l.before.args.t1 l.before.args.count l.before.requires.chained _
     (omega (arith, c.before.before.loop-test.true, l.loop.invariant.end, counted l.before))
 
 loop-less : tie.Need-loop-smaller invariant-loop decreases-loop
@@ -115,10 +115,10 @@ returns : tie.Need-returns invariant-loop decreases-loop
 returns c =
     let l = c.before in
     let b = l.before in
-    let scans = scansIn b.args.count b.args.t1 in
+    let scans = scans_in b.args.count b.args.t1 in
     let st = b.requires.chained.standing in
     let x = b.args.x in
-    ap (λ p. p.k) (lies-one scans st (is_last scans) x (place_in scans x l.loop.low) (valuePlace scans x)
+    ap (λ p. p.k) (lies-one scans st (is_last scans) x (place_in scans x l.loop.low) (value_place scans x)
     (found scans st x l.loop.low l.loop.high l.loop.invariant c.loop-test.false) (value-lies scans st x b.requires.within))
 
 pub piece-at-spec : {M : Type 1} → statement M

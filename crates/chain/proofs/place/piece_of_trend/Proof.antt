@@ -8,8 +8,8 @@ use Rattle.scans.specs.Scan.{Scan, grade, at}
 use Rattle.knot.specs.Machine.{Graded, scan}
 use Rattle.knot.specs.declared.held.Knot.{Knot}
 use Rattle.knot.proofs.Lists.{scan-grade}
-use Rattle.scans.proofs.Pieces.{trend-kept, trend-moved}
-use Rattle.chain.proofs.Knots.{mark-is}
+use Rattle.scans.proofs.Pieces.{trend-kept, trend_moved}
+use Rattle.chain.proofs.Knots.{mark_is}
 use Rattle.chain.proofs.place.piece_of_trend.Statement.{statement}
 use Rattle.chain.proofs.place.piece_of_trend.Tie as tie
 
@@ -35,7 +35,7 @@ mul-if3 c = search rules
 returns-3 : tie.Need-returns-3
 returns-3 c = λ scans more assigned starts.
     let b = c.before.before.before.before.before in
-    let is = mark-is scans b.args.k b.args.start starts in
+    let is = mark_is scans b.args.k b.args.start starts in
     sym (ap (λ p. p.k) (trend-kept scans _ _ assigned (λ on first last lone. omega (arith, c.if3.true))))
 
 sub-result : tie.Need-overflow-sub-result
@@ -44,9 +44,9 @@ sub-result c = search rules
 returns-4 : tie.Need-returns-4
 returns-4 c = λ scans more assigned starts.
     let b = c.before.before.before.before.before in
-    let on = mark-is scans b.args.k b.args.start starts ∙ c.if3.false in
+    let on = mark_is scans b.args.k b.args.start starts ∙ c.if3.false in
     let lone = start-grade b.args.start b.requires scans b.args.k starts ∙ c.before.before.if2.false in
-    sym (ap (λ p. p.k) (trend-moved scans _ _ assigned (sym on) (omega arith) more lone))
+    sym (ap (λ p. p.k) (trend_moved scans _ _ assigned (sym on) (omega arith) more lone))
 
 pub piece-of-trend-spec : {M : Type 1} → statement M
 piece-of-trend-spec = tie.close (tie.spec returns returns-2 cast-if3 mul-if3 returns-3 sub-result returns-4)

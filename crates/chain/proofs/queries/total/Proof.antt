@@ -11,15 +11,15 @@ use mir.Syntax.{w64}
 use mir.Val.{SFits, to_z, of_z}
 use mir.Facts.{to_z-of_z}
 use Rattle.integer.specs.Within.{Within}
-use Rattle.integer.proofs.Within.{within_more, within-fits, result-is}
+use Rattle.integer.proofs.Within.{within_more, within-fits, result_is}
 use Rattle.rounding.specs.Water.{total}
 use Rattle.rounding.proofs.Fits.{total-within}
-use Rattle.knot.specs.Machine.{scansIn}
+use Rattle.knot.specs.Machine.{scans_in}
 use Rattle.scans.specs.Scan.{Scan}
 use Rattle.scans.specs.Standing.{Standing}
 use Rattle.scans.specs.Pieces.{piece_of}
-use Rattle.scans.specs.Queries.{sumFrom, totalOver}
-use Rattle.chain.proofs.Knots.{count-is, between_is, between-admitted}
+use Rattle.scans.specs.Queries.{sum_from, total_over}
+use Rattle.chain.proofs.Knots.{count_is, between_is, between-admitted}
 use Rattle.scans.proofs.Pieces.{piece-admitted}
 use Rattle.scans.proofs.Sums.{sum-within}
 use Rattle.chain.proofs.queries.total.Statement.{statement}
@@ -27,20 +27,20 @@ use Rattle.chain.proofs.queries.total.Tie as tie
 
 -- ---- totals
 
-none_yet : (scans : List Scan) (i : ℕ) → pos 0 ≡ totalOver scans i i
-unfolding totalOver sumFrom
+none_yet : (scans : List Scan) (i : ℕ) → pos 0 ≡ total_over scans i i
+unfolding total_over sum_from
 none_yet scans i = let c : i - i ≡ 0 = omega arith in rw c refl
 
-one_more : (scans : List Scan) (i k : ℕ) → i ≤ k → totalOver scans i (k + 1) ≡ totalOver scans i k +ℤ total (piece_of scans k)
-unfolding totalOver sumFrom
+one_more : (scans : List Scan) (i k : ℕ) → i ≤ k → total_over scans i (k + 1) ≡ total_over scans i k +ℤ total (piece_of scans k)
+unfolding total_over sum_from
 one_more scans i k h =
     let f : ℕ → ℤ = λ k. total (piece_of scans k) in
     let c : k + 1 - i ≡ suc (k - i) = omega arith in
     let e : i + (k - i) ≡ k = omega arith in
-    ap (sumFrom f i) c ∙ ap (λ j. sumFrom f i (k - i) +ℤ f j) e
+    ap (sum_from f i) c ∙ ap (λ j. sum_from f i (k - i) +ℤ f j) e
 
-totals-within : (scans : List Scan) → Standing scans → (i j : ℕ) → i ≤ j → j < length scans → Within (2 ^ 61) (totalOver scans i j)
-unfolding totalOver
+totals-within : (scans : List Scan) → Standing scans → (i j : ℕ) → i ≤ j → j < length scans → Within (2 ^ 61) (total_over scans i j)
+unfolding total_over
 totals-within scans st i j h b =
     within_more (mul-le-mul_right (2 ^ 54) few) (sum-within _ (2 ^ 54) i (j - i)
     (λ k l g. total-within (piece_of scans k) (piece-admitted scans st k (omega arith))))
@@ -53,16 +53,16 @@ totals-within scans st i j h b =
 record Added (scans : List Scan) (i j k : ℕ) (sum : ℤ) : Type 0 where
   from : i ≤ k
   to : k ≤ j
-  is : sum ≡ totalOver scans i k
+  is : sum ≡ total_over scans i k
 
 abbrev invariant-loop : tie.invariant-loop
-invariant-loop count i j knots sum₀ k₀ sum k = Added (scansIn count knots) i j k (to_z w64 sum)
+invariant-loop count i j knots sum₀ k₀ sum k = Added (scans_in count knots) i j k (to_z w64 sum)
 
 abbrev decreases-loop : tie.decreases-loop
 decreases-loop count i j knots sum₀ k₀ sum k = j - k
 
 loop-holds : tie.Need-loop-init invariant-loop decreases-loop
-loop-holds c = record { from = omega arith; to = c.requires.1; is = none_yet (scansIn c.args.count c.args.t1) c.args.i }
+loop-holds c = record { from = omega arith; to = c.requires.1; is = none_yet (scans_in c.args.count c.args.t1) c.args.i }
 
 -- the right knot is one of the reel
 inside : (c : tie.In-loop invariant-loop decreases-loop) → c.before.loop.k + 1 < c.before.before.args.count
@@ -106,22 +106,22 @@ module _ (c : tie.After-total-between invariant-loop decreases-loop) where
   start = turn.before.before
 
   abbrev scans : List Scan
-  scans = scansIn start.args.count start.args.t1
+  scans = scans_in start.args.count start.args.t1
 
-  more : to_z w64 turn.before.loop.sum +ℤ to_z w64 (of_z w64 c.total-between.result) ≡ totalOver scans start.args.i (turn.before.loop.k + 1)
+  more : to_z w64 turn.before.loop.sum +ℤ to_z w64 (of_z w64 c.total-between.result) ≡ total_over scans start.args.i (turn.before.loop.k + 1)
   more =
       let l = turn.before in
       ap₂ (λ a b. a +ℤ b) l.loop.inv.is
-      (result-is c.total-between.result c.total-between.type-inv ∙ c.total-between.ensures ∙
+      (result_is c.total-between.result c.total-between.type-inv ∙ c.total-between.ensures ∙
       ap total (between_is start.args.t1 start.args.count start.pre.0 l.loop.k (inside turn))) ∙
       sym (one_more scans start.args.i l.loop.k l.loop.inv.from)
 
-  fits : SFits w64 (totalOver scans start.args.i (turn.before.loop.k + 1))
+  fits : SFits w64 (total_over scans start.args.i (turn.before.loop.k + 1))
   fits =
       let l = turn.before in
       within-fits w64 _ (lit< tt)
       (totals-within scans start.pre.0.standing start.args.i (l.loop.k + 1) (omega (arith, l.loop.inv.from))
-      (omega (arith, inside turn, count-is start.args.t1 start.args.count start.pre.0)))
+      (omega (arith, inside turn, count_is start.args.t1 start.args.count start.pre.0)))
 
 add-sum : tie.Need-overflow-add-sum invariant-loop decreases-loop
 add-sum c = rw (more c) (fits c)

@@ -2,9 +2,9 @@
 use borrow.Author.Rules.{rules}
 use mathlib.Core.Path.{◌∙◌}
 use native.Mathlib.Omega.{arith}
-use Rattle.integer.proofs.Within.{result-is}
+use Rattle.integer.proofs.Within.{result_is}
 use Rattle.rounding.specs.Trend.{trend}
-use Rattle.scans.specs.Queries.{trendAt}
+use Rattle.scans.specs.Queries.{trend_at}
 use Rattle.chain.proofs.queries.Located.{ValueLocated, TrendLocated, value-located, trend-located}
 use Rattle.chain.proofs.queries.trend.Statement.{statement}
 use Rattle.chain.proofs.queries.trend.Tie as tie
@@ -62,8 +62,8 @@ trend-between-requires : tie.Need-trend-between-requires
 trend-between-requires c κs = (place c.before.before.before).asked
 
 returns : tie.Need-returns
-unfolding trendAt
-returns c = result-is c.trend-between.result c.trend-between.type-inv ∙ c.trend-between.ensures ∙ (place c.before.before.before.before).given trend
+unfolding trend_at
+returns c = result_is c.trend-between.result c.trend-between.type-inv ∙ c.trend-between.ensures ∙ (place c.before.before.before.before).given trend
 
 pub trend-spec : {M : Type 1} → statement M
 trend-spec =

@@ -2,7 +2,7 @@
 use borrow.Author.Rules.{rules}
 use mathlib.Core.Path.{◌∙◌}
 use native.Mathlib.Omega.{arith}
-use Rattle.integer.proofs.Within.{result-is}
+use Rattle.integer.proofs.Within.{result_is}
 use Rattle.rounding.specs.Value.{value}
 use Rattle.scans.specs.Queries.{value_at}
 use Rattle.chain.proofs.queries.Located.{ValueLocated, value-located}
@@ -44,7 +44,7 @@ value-between-requires c κs = (place c.before.before.before).asked
 
 returns : tie.Need-returns
 unfolding value_at
-returns c = result-is c.value-between.result c.value-between.type-inv ∙ c.value-between.ensures ∙ (place c.before.before.before.before).given value
+returns c = result_is c.value-between.result c.value-between.type-inv ∙ c.value-between.ensures ∙ (place c.before.before.before.before).given value
 
 pub value_spec : {M : Type 1} → statement M
 value_spec =

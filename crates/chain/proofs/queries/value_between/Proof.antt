@@ -1,11 +1,11 @@
 -- `chain::queries::value_between` meets its contract: the two slices are the lists of the two scans.
 use borrow.Author.Rules.{rules}
 use mathlib.Core.Path.{◌∙◌, ap, sym}
-use Rattle.integer.proofs.Within.{result-is}
+use Rattle.integer.proofs.Within.{result_is}
 use Rattle.rounding.specs.Piece.{piece}
 use Rattle.rounding.specs.Value.{value}
 use Rattle.knot.specs.Machine.{scan}
-use Rattle.scans.specs.Scan.{leftList, rightList}
+use Rattle.scans.specs.Scan.{left_list, right_list}
 use Rattle.knot.proofs.Lists.{list_length}
 use Rattle.chain.proofs.queries.value_between.Statement.{statement}
 use Rattle.chain.proofs.queries.value_between.Tie as tie
@@ -43,8 +43,8 @@ value-requires c κs = let b = c.before.before.before.before.before.before.befor
 returns : tie.Need-returns
 returns c =
     let b = c.before.before.before.before.before.before.before.before in
-    result-is c.value.result c.value.type-inv ∙ c.value.ensures ∙
-    ap (λ h. value (piece h (rightList (scan b.args.left)) (leftList (scan b.args.right))) b.args.r) c.before.before.before.gap.ensures
+    result_is c.value.result c.value.type-inv ∙ c.value.ensures ∙
+    ap (λ h. value (piece h (right_list (scan b.args.left)) (left_list (scan b.args.right))) b.args.r) c.before.before.before.gap.ensures
 
 pub value-between-spec : {M : Type 1} → statement M
 value-between-spec =

@@ -10,8 +10,8 @@ use mir.Syntax.{w32, w64}
 use mir.Val.{SFits, to_z, of_z}
 use mir.Facts.{to_z-of_z, sfits_widen}
 use Rattle.integer.specs.Within.{Within}
-use Rattle.integer.proofs.Within.{fits-within, wide_is, within-fits, within_more, within-add, within-mul, within-size, computed-is}
-use Rattle.rounding.specs.Limits.{sizeMax, multiplierMax}
+use Rattle.integer.proofs.Within.{fits-within, wide_is, within-fits, within_more, within-add, within_mul, within-size, computed_is}
+use Rattle.rounding.specs.Limits.{size_max, multiplier_max}
 use Rattle.combination.proofs.coefficients.coefficient.Statement.{statement}
 use Rattle.combination.proofs.coefficients.coefficient.Tie as tie
 
@@ -20,9 +20,9 @@ abbrev wide : ℤ → ℤ
 wide z = to_z w64 (of_z w64 (to_z w32 (of_z w32 z)))
 
 -- a multiplier times a coefficient
-module _ (x y : ℤ) (multiplier : Within multiplierMax x) (fx : SFits w32 x) (fy : SFits w32 y) where
-  product-within : Within (multiplierMax * 2 ^ 31) (x *ℤ y)
-  product-within = within-mul x y multiplier (fits-within w32 y fy)
+module _ (x y : ℤ) (multiplier : Within multiplier_max x) (fx : SFits w32 x) (fy : SFits w32 y) where
+  product-within : Within (multiplier_max * 2 ^ 31) (x *ℤ y)
+  product-within = within_mul x y multiplier (fits-within w32 y fy)
 
   product-fits : SFits w64 (x *ℤ y)
   product-fits = within-fits w64 (x *ℤ y) (lit< tt) product-within
@@ -31,7 +31,7 @@ module _ (x y : ℤ) (multiplier : Within multiplierMax x) (fx : SFits w32 x) (f
   factors = ap₂ (λ a b. a *ℤ b) (wide_is x fx) (wide_is y fy)
 
   product_is : to_z w64 (of_z w64 (wide x *ℤ wide y)) ≡ x *ℤ y
-  product_is = computed-is factors product-fits
+  product_is = computed_is factors product-fits
 
 module _ (b : tie.Start) where
   abbrev sum : ℤ
@@ -41,7 +41,7 @@ module _ (b : tie.Start) where
   abbrev formed : ℤ
   formed = to_z w64 (of_z w64 (wide b.args.alpha *ℤ wide b.args.a)) +ℤ to_z w64 (of_z w64 (wide b.args.beta *ℤ wide b.args.b))
 
-  sum-within : Within (multiplierMax * 2 ^ 31 + multiplierMax * 2 ^ 31) sum
+  sum-within : Within (multiplier_max * 2 ^ 31 + multiplier_max * 2 ^ 31) sum
   sum-within =
       within-add _ _ (product-within b.args.alpha b.args.a b.pre.0 b.fits.alpha b.fits.a)
       (product-within b.args.beta b.args.b b.pre.1 b.fits.beta b.fits.b)
@@ -55,7 +55,7 @@ module _ (b : tie.Start) where
       (product_is b.args.beta b.args.b b.pre.1 b.fits.beta b.fits.b)
 
   held-is : to_z w64 (of_z w64 formed) ≡ sum
-  held-is = computed-is formed-is sum_fits
+  held-is = computed_is formed-is sum_fits
 
 cast-c : tie.Need-overflow-cast-c
 cast-c c = rw (to_z-of_z c.ranges.alpha) (sfits_widen tt c.ranges.alpha)
@@ -87,7 +87,7 @@ size_is c = c.magnitude.ensures ∙ ap nat_abs (held-is c.before)
 
 -- a sum that is not too great
 module _ (c : tie.Else1) where
-  small : nat_abs (sum c.before.before) ≤ sizeMax
+  small : nat_abs (sum c.before.before) ≤ size_max
   small = omega (arith, c.if1.false, size_is c.before)
 
   small-fits : SFits w32 (sum c.before.before)
@@ -100,14 +100,14 @@ cast-result : tie.Need-overflow-cast-result
 cast-result c = search rules
 
 returns : tie.Need-returns
-returns c = rw (lt-leb (nat_abs (sum c.before.before)) sizeMax (omega (arith, c.if1.true, size_is c.before))) refl
+returns c = rw (lt-leb (nat_abs (sum c.before.before)) size_max (omega (arith, c.if1.true, size_is c.before))) refl
 
 cast-result-2 : tie.Need-overflow-cast-result-2
 cast-result-2 c = subst (SFits w32) (sym (held-is c.before.before)) (small-fits c)
 
 returns-2 : tie.Need-returns-2
 returns-2 c =
-    rw (le-leb (nat_abs (sum c.before.before)) sizeMax (small c))
+    rw (le-leb (nat_abs (sum c.before.before)) size_max (small c))
     (ap (λ z. to_z w32 (of_z w32 z)) (held-is c.before.before) ∙ to_z-of_z (small-fits c))
 
 pub coefficient-spec : {M : Type 1} → statement M

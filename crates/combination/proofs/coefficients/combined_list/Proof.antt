@@ -12,7 +12,7 @@ use mir.Syntax.{w32}
 use mir.Val.{to_z, of_z}
 use mir.Facts.{to_z-of_z}
 use Rattle.hermite.specs.Polynomial.{◌⊕◌, ◌⊙◌}
-use Rattle.rounding.specs.Limits.{gradeMax}
+use Rattle.rounding.specs.Limits.{grade_max}
 use Rattle.rounding.proofs.Combination.{combined-length, combined-coefficient}
 use Rattle.knot.proofs.Lists.{map-append-one}
 use Rattle.combination.specs.Machine.{limited}
@@ -24,24 +24,24 @@ module _ (α β : ℤ) (a b c : List ℤ) (j : ℕ) where
   abbrev sum : List ℤ
   sum = α ⊙ a ⊕ β ⊙ b
 
-  one_more : (x : ℤ) → length a ≡ gradeMax + 1 → length b ≡ gradeMax + 1 → length c ≡ gradeMax + 1 → j < gradeMax + 1 →
+  one_more : (x : ℤ) → length a ≡ grade_max + 1 → length b ≡ grade_max + 1 → length c ≡ grade_max + 1 → j < grade_max + 1 →
       take j c ≡ map limited (take j sum) → x ≡ limited (α *ℤ get_or a j (pos 0) +ℤ β *ℤ get_or b j (pos 0)) →
       take (j + 1) (set c j x) ≡ map limited (take (j + 1) sum)
   one_more x ea eb ec h so is =
       rw (add-one, take-suc-set c j x (omega arith), take-suc sum j (pos 0) (omega (arith, combined-length α β a b)), so, is, ← combined-coefficient α β a b j)
       (sym (map-append-one limited (take j sum) (get_or sum j (pos 0))))
 
-  all-eight : length a ≡ gradeMax + 1 → length b ≡ gradeMax + 1 → length c ≡ gradeMax + 1 → gradeMax + 1 ≤ j →
+  all-eight : length a ≡ grade_max + 1 → length b ≡ grade_max + 1 → length c ≡ grade_max + 1 → grade_max + 1 ≤ j →
       take j c ≡ map limited (take j sum) → c ≡ map limited sum
   all-eight ea eb ec h so =
       sym (take_all j c (omega arith)) ∙ so ∙ ap (map limited) (take_all j sum (omega (arith, combined-length α β a b)))
 
 abbrev invariant-loop : tie.invariant-loop
 invariant-loop alpha beta a b c₀ j₀ c j =
-    (j ≤ gradeMax + 1) × (length c ≡ gradeMax + 1) × (take j c ≡ map limited (take j (to_z w32 alpha ⊙ a ⊕ to_z w32 beta ⊙ b)))
+    (j ≤ grade_max + 1) × (length c ≡ grade_max + 1) × (take j c ≡ map limited (take j (to_z w32 alpha ⊙ a ⊕ to_z w32 beta ⊙ b)))
 
 abbrev decreases-loop : tie.decreases-loop
-decreases-loop alpha beta a b c₀ j₀ c j = gradeMax + 1 - j
+decreases-loop alpha beta a b c₀ j₀ c j = grade_max + 1 - j
 
 loop-holds : tie.Need-loop-init invariant-loop decreases-loop
 loop-holds c = (omega arith, refl, refl)

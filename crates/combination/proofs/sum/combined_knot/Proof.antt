@@ -8,22 +8,22 @@ use lib.IntN.{ℤ}
 use lib.ListN.{length, take, length-map}
 use mir.Facts.{to_z-of_z}
 use Rattle.hermite.specs.Polynomial.{◌⊕◌, ◌⊙◌}
-use Rattle.rounding.specs.Limits.{gradeMax}
+use Rattle.rounding.specs.Limits.{grade_max}
 use Rattle.rounding.proofs.Combination.{combined-length}
-use Rattle.scans.specs.Scan.{scanOf}
-use Rattle.scans.specs.Combination.{combinedScan}
+use Rattle.scans.specs.Scan.{scan_of}
+use Rattle.scans.specs.Combination.{combined_scan}
 use Rattle.knot.specs.Machine.{scan, Graded, Holds}
 use Rattle.knot.specs.declared.held.Knot.{Knot}
-use Rattle.combination.specs.Machine.{limited, limitedScan}
+use Rattle.combination.specs.Machine.{limited, limited_scan}
 use Rattle.combination.proofs.Limited.{take-map, take-⊙, take-⊕}
 use Rattle.combination.proofs.sum.combined_knot.Statement.{statement}
 use Rattle.combination.proofs.sum.combined_knot.Tie as tie
 
 holds-sum : (α β : ℤ) (a b : Knot) (c : List ℤ) → Graded a → Graded b → a.grade ≡ b.grade → c ≡ map limited (α ⊙ a.coefficients ⊕ β ⊙ b.coefficients) →
-    Holds (record { position = a.position; grade = a.grade; coefficients = c }) (limitedScan (combinedScan α β (scan a) (scan b)))
+    Holds (record { position = a.position; grade = a.grade; coefficients = c }) (limited_scan (combined_scan α β (scan a) (scan b)))
 holds-sum α β a b c ga gb same is = record {
   graded = record { room = room; grade = ga.grade };
-  is = ap (scanOf a.position) list;
+  is = ap (scan_of a.position) list;
 }
   where
     A : List ℤ
@@ -32,7 +32,7 @@ holds-sum α β a b c ga gb same is = record {
     B : List ℤ
     B = b.coefficients
 
-    room : length c ≡ gradeMax + 1
+    room : length c ≡ grade_max + 1
     room = ap length is ∙ length-map (α ⊙ A ⊕ β ⊙ B) limited ∙ omega (arith, combined-length α β A B, ga.room, gb.room)
 
     list : take (a.grade + 1) c ≡ map limited (α ⊙ take (a.grade + 1) A ⊕ β ⊙ take (b.grade + 1) B)

@@ -5,7 +5,7 @@ use native.Mathlib.Omega.{arith}
 use lib.IntN.{nat_abs}
 use mir.Facts.{to_z-of_z, sfits_widen}
 use Rattle.integer.proofs.Within.{wide_is}
-use Rattle.rounding.specs.Limits.{multiplierMax}
+use Rattle.rounding.specs.Limits.{multiplier_max}
 use Rattle.combination.proofs.sum.multiplier_cause.Statement.{statement}
 use Rattle.combination.proofs.sum.multiplier_cause.Tie as tie
 
@@ -23,7 +23,7 @@ magnitude-requires : tie.Need-magnitude-requires
 magnitude-requires c κs = tt
 
 returns : tie.Need-returns
-returns c = rw (lt-ltb multiplierMax (nat_abs c.before.before.args.alpha) (omega (arith, c.if1.true, size_is c.before))) refl
+returns c = rw (lt-ltb multiplier_max (nat_abs c.before.before.args.alpha) (omega (arith, c.if1.true, size_is c.before))) refl
 
 cast-magnitude-2 : tie.Need-overflow-cast-magnitude-2
 cast-magnitude-2 c = let b = c.before.before in rw (to_z-of_z b.ranges.beta) (sfits_widen tt b.ranges.beta)
@@ -36,8 +36,8 @@ returns-2 c =
     let n = c.before.before in
     let b = n.before.before in
     rw (
-      le-ltb multiplierMax (nat_abs b.args.alpha) (omega (arith, n.if1.false, size_is n.before)),
-      lt-ltb multiplierMax (nat_abs b.args.beta) (omega (arith, c.if2.true, other-size-is c.before)),
+      le-ltb multiplier_max (nat_abs b.args.alpha) (omega (arith, n.if1.false, size_is n.before)),
+      lt-ltb multiplier_max (nat_abs b.args.beta) (omega (arith, c.if2.true, other-size-is c.before)),
     ) refl
 
 returns-3 : tie.Need-returns-3
@@ -45,8 +45,8 @@ returns-3 c =
     let n = c.before.before in
     let b = n.before.before in
     rw (
-      le-ltb multiplierMax (nat_abs b.args.alpha) (omega (arith, n.if1.false, size_is n.before)),
-      le-ltb multiplierMax (nat_abs b.args.beta) (omega (arith, c.if2.false, other-size-is c.before)),
+      le-ltb multiplier_max (nat_abs b.args.alpha) (omega (arith, n.if1.false, size_is n.before)),
+      le-ltb multiplier_max (nat_abs b.args.beta) (omega (arith, c.if2.false, other-size-is c.before)),
     ) refl
 
 pub multiplier-cause-spec : {M : Type 1} → statement M

@@ -6,11 +6,11 @@ use native.Mathlib.Omega.{arith}
 use mir.Syntax.{w32}
 use mir.Val.{to_z}
 use mir.Facts.{to_z-of_z}
-use Rattle.rounding.specs.Limits.{knotsMax}
-use Rattle.scans.specs.Combination.{combinedScan}
-use Rattle.knot.specs.Machine.{scan, Holds, knotIn, spotIn}
-use Rattle.combination.specs.Machine.{limitedScan}
-use Rattle.combination.proofs.sum.Come.{Come, at-knot, none_yet, same-grade, close, found-is, one_more, fails, ends}
+use Rattle.rounding.specs.Limits.{knots_max}
+use Rattle.scans.specs.Combination.{combined_scan}
+use Rattle.knot.specs.Machine.{scan, Holds, knot_in, spot_in}
+use Rattle.combination.specs.Machine.{limited_scan}
+use Rattle.combination.proofs.sum.Come.{Come, at_knot, none_yet, same-grade, close, found_is, one_more, fails, ends}
 use Rattle.combination.proofs.sum.summed.Statement.{statement}
 use Rattle.combination.proofs.sum.summed.Tie as tie
 
@@ -34,7 +34,7 @@ come-in : (l : tie.At-loop invariant-loop decreases-loop) → let b = l.before.b
 come-in l = let b = l.before.before in rw (to_z-of_z b.ranges.alpha, to_z-of_z b.ranges.beta) at l.loop.invariant
 
 -- there is a place k
-there-k : (c : tie.In-loop invariant-loop decreases-loop) → c.before.loop.k < knotsMax
+there-k : (c : tie.In-loop invariant-loop decreases-loop) → c.before.loop.k < knots_max
 there-k c = omega (arith, c.before.before.before.requires.filled.count)
 
 mul-mine : tie.Need-overflow-mul-mine invariant-loop decreases-loop
@@ -57,8 +57,8 @@ combined-knot-requires c κs =
     let h : k < b.args.count = omega arith in
     let mine = (come-in l).rest k (omega arith) in
     rw (to_z-of_z b.ranges.alpha, to_z-of_z b.ranges.beta, mine) (
-      (b.requires.multiplier, b.requires.otherMultiplier),
-      (b.requires.filled.graded k h, b.requires.otherFilled.graded k h, same-grade b.args.alpha b.args.beta _ _ _ b.requires k h),
+      (b.requires.multiplier, b.requires.other_multiplier),
+      (b.requires.filled.graded k h, b.requires.other_filled.graded k h, same-grade b.args.alpha b.args.beta _ _ _ b.requires k h),
     )
 
 -- the knot that is formed
@@ -73,7 +73,7 @@ module _ (c : tie.After-combined-knot invariant-loop decreases-loop) where
   in_list = omega arith
 
   holds : Holds c.combined-knot.result
-      (limitedScan (combinedScan b.args.alpha b.args.beta (scan (knotIn l.loop.knots l.loop.k)) (scan (knotIn b.args.t4 l.loop.k))))
+      (limited_scan (combined_scan b.args.alpha b.args.beta (scan (knot_in l.loop.knots l.loop.k)) (scan (knot_in b.args.t4 l.loop.k))))
   holds = rw (to_z-of_z b.fits.alpha, to_z-of_z b.fits.beta) at c.combined-knot.ensures
 
 cast-follow-reason : tie.Need-overflow-cast-follow-reason invariant-loop decreases-loop
@@ -81,7 +81,7 @@ cast-follow-reason c = omega (arith, there-k c.before.before.before)
 
 follow-reason-requires : tie.Need-follow-reason-requires invariant-loop decreases-loop
 follow-reason-requires c κs =
-    let last = (come-in (l c)).lastGraded in (
+    let last = (come-in (l c)).last_graded in (
       (holds c).graded,
       λ t. ((last t).0, omega (arith, (last t).1, in_list c)),
       close (b c).args.alpha (b c).args.beta _ _ _ (b c).requires _ _ _ (come-in (l c)) (in_list c) _ (holds c),
@@ -92,16 +92,16 @@ enum-known-spot c = search rules
 
 -- what is found of it
 found : (t : tie.After-follow-reason invariant-loop decreases-loop) → let c = t.before in
-    spotIn t.follow-reason.result ≡ at-knot (b c).args.alpha (b c).args.beta (b c).args.t2 (b c).args.t4 (b c).args.count (l c).loop.k
+    spot_in t.follow-reason.result ≡ at_knot (b c).args.alpha (b c).args.beta (b c).args.t2 (b c).args.t4 (b c).args.count (l c).loop.k
 found t = let c = t.before in
-    t.follow-reason.ensures ∙ found-is (b c).args.alpha (b c).args.beta _ _ _ (b c).requires _ _ _ (come-in (l c)) (in_list c) _ (holds c)
+    t.follow-reason.ensures ∙ found_is (b c).args.alpha (b c).args.beta _ _ _ (b c).requires _ _ _ (come-in (l c)) (in_list c) _ (holds c)
 
 returns : tie.Need-returns invariant-loop decreases-loop
 returns c =
     let t = c.before.before.before in
     let k = t.before in
     fails (b k).args.alpha (b k).args.beta _ _ _ (b k).requires _ _ _ (come-in (l k)) (in_list k) _ (holds k) _ refl refl
-    (sym (found t) ∙ ap spotIn c.before.spot.given.1)
+    (sym (found t) ∙ ap spot_in c.before.spot.given.1)
 
 enum_told : tie.Need-enum-told invariant-loop decreases-loop
 enum_told c = search rules
@@ -124,7 +124,7 @@ loop-again c =
     let k = t.before in
     rw (to_z-of_z (b k).ranges.alpha, to_z-of_z (b k).ranges.beta)
     (one_more (b k).args.alpha (b k).args.beta _ _ _ (b k).requires _ _ _ (come-in (l k)) (in_list k) _ (holds k)
-    (sym (found t) ∙ ap spotIn c.enum_told.given.1))
+    (sym (found t) ∙ ap spot_in c.enum_told.given.1))
 
 returns-2 : tie.Need-returns-2 invariant-loop decreases-loop
 returns-2 c =

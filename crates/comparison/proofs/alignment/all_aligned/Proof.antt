@@ -6,7 +6,7 @@ use mathlib.Core.Path.{◌≡◌, sym, ◌∙◌}
 use Prim.Native.Nat.{ℕ, ◌-◌, ◌≤◌, ◌<◌}
 use native.Mathlib.Omega.{arith}
 use Rattle.scans.specs.Combination.{aligned}
-use Rattle.comparison.proofs.Pairs.{next-passes, pair, unlike-counts, unlike-pair, all-pairs}
+use Rattle.comparison.proofs.Pairs.{next_passes, pair, unlike_counts, unlike_pair, all-pairs}
 use Rattle.comparison.proofs.alignment.all_aligned.Statement.{statement}
 use Rattle.comparison.proofs.alignment.all_aligned.Tie as tie
 
@@ -17,7 +17,7 @@ abbrev decreases-loop : tie.decreases-loop
 decreases-loop count other-count knots others k₀ k = count - k
 
 returns : tie.Need-returns invariant-loop decreases-loop
-returns c = let b = c.before in sym (unlike-counts aligned _ _ _ _ b.requires.0 b.requires.1 c.if1.true)
+returns c = let b = c.before in sym (unlike_counts aligned _ _ _ _ b.requires.0 b.requires.1 c.if1.true)
 
 loop-holds : tie.Need-loop-init invariant-loop decreases-loop
 loop-holds c = (omega arith, λ j h. absurd (omega arith))
@@ -45,7 +45,7 @@ returns-2 c =
     let t = c.before in
     let l = t.before.before.before.before in
     let b = l.before.before in
-    sym (unlike-pair aligned _ _ _ _ b.requires.0 b.requires.1 l.before.if1.false l.loop.k (omega arith)
+    sym (unlike_pair aligned _ _ _ _ b.requires.0 b.requires.1 l.before.if1.false l.loop.k (omega arith)
     (sym t.aligned.ensures ∙ not-true t.aligned.result c.if2.true))
 
 add-k : tie.Need-overflow-add-k invariant-loop decreases-loop
@@ -58,7 +58,7 @@ loop-again : tie.Need-loop-preserved invariant-loop decreases-loop
 loop-again c =
     let t = c.before in
     let l = t.before.before.before.before in
-    (omega arith, next-passes _ l.loop.k l.loop.invariant.1 (sym t.aligned.ensures ∙ not-false t.aligned.result c.if2.false))
+    (omega arith, next_passes _ l.loop.k l.loop.invariant.1 (sym t.aligned.ensures ∙ not-false t.aligned.result c.if2.false))
 
 returns-3 : tie.Need-returns-3 invariant-loop decreases-loop
 returns-3 c =

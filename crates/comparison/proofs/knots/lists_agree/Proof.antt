@@ -5,7 +5,7 @@ use mathlib.Core.Bool.{true}
 use mathlib.Core.Path.{◌≡◌, sym, ◌∙◌}
 use Prim.Native.Nat.{ℕ, ◌+◌, ◌-◌, ◌≤◌, ◌<◌}
 use native.Mathlib.Omega.{arith}
-use Rattle.comparison.proofs.Pairs.{next-passes, alike, alike-bits, unlike-coefficient, all_alike}
+use Rattle.comparison.proofs.Pairs.{next_passes, alike, alike_bits, unlike_coefficient, all_alike}
 use Rattle.comparison.proofs.knots.lists_agree.Statement.{statement}
 use Rattle.comparison.proofs.knots.lists_agree.Tie as tie
 
@@ -35,8 +35,8 @@ returns c =
     let n = c.before in
     let l = n.before.before.before in
     let b = l.before in
-    let bits = alike-bits b.args.t2 b.args.t3 l.loop.j (record { sfits = n.before.if12.given }) (record { sfits = n.if13.given }) in
-    sym (unlike-coefficient b.args.t2 b.args.t3 (b.args.grade + 1) (omega arith) (omega arith) l.loop.j (omega arith)
+    let bits = alike_bits b.args.t2 b.args.t3 l.loop.j (record { sfits = n.before.if12.given }) (record { sfits = n.if13.given }) in
+    sym (unlike_coefficient b.args.t2 b.args.t3 (b.args.grade + 1) (omega arith) (omega arith) l.loop.j (omega arith)
     (sym bits ∙ ne_eqb _ _ c.if1.true))
 
 add-j : tie.Need-overflow-add-j invariant-loop decreases-loop
@@ -50,8 +50,8 @@ loop-again c =
     let n = c.before in
     let l = n.before.before.before in
     let b = l.before in
-    let bits = alike-bits b.args.t2 b.args.t3 l.loop.j (record { sfits = n.before.if12.given }) (record { sfits = n.if13.given }) in
-    (omega arith, next-passes _ l.loop.j l.loop.invariant.1 (sym bits ∙ eq-eqb _ _ c.if1.false))
+    let bits = alike_bits b.args.t2 b.args.t3 l.loop.j (record { sfits = n.before.if12.given }) (record { sfits = n.if13.given }) in
+    (omega arith, next_passes _ l.loop.j l.loop.invariant.1 (sym bits ∙ eq-eqb _ _ c.if1.false))
 
 returns-2 : tie.Need-returns-2 invariant-loop decreases-loop
 returns-2 c =

@@ -7,10 +7,10 @@ use native.Mathlib.Omega.{arith}
 use lib.Dec.{ltb}
 use lib.ListN.{length}
 use borrow.Author.Tests.{ltb-true}
-use Rattle.rounding.specs.Limits.{gapMax}
+use Rattle.rounding.specs.Limits.{gap_max}
 use Rattle.scans.specs.Scan.{Scan, gap}
-use Rattle.scans.specs.SizeRule.{appendProducts, firstTooLarge}
-use Rattle.scans.specs.RefusalTable.{first, listCauses, positionCauses}
+use Rattle.scans.specs.SizeRule.{append_products, first_too_large}
+use Rattle.scans.specs.RefusalTable.{first, list_causes, position_causes}
 use Rattle.knot.specs.Machine.{number, refusal, scan}
 use Rattle.scans.proofs.Causes.{quiet, listed, Placed, placed}
 use Rattle.scans.proofs.Reason.{others}
@@ -44,15 +44,15 @@ returns-2 : tie.Need-returns-2
 returns-2 c =
     let l = c.before.before.before.before in
     let a = l.before.before.args in
-    let found : first (listCauses (length a.coefficients.now)) ≡ some (number c.before.before.cause.given.0.0) =
+    let found : first (list_causes (length a.coefficients.now)) ≡ some (number c.before.before.cause.given.0.0) =
     sym l.list-cause.ensures ∙ ap refusal c.before.before.cause.given.1 in
-    refuses _ _ _ _ c.refused2.ensures refl (others (listCauses (length a.coefficients.now)) (refl, tt) found)
+    refuses _ _ _ _ c.refused2.ensures refl (others (list_causes (length a.coefficients.now)) (refl, tt) found)
     (append-list a.count (beside (ltb 0 a.count) a.held) a.position a.coefficients.now l.before.if1.false found)
 
 enum_told : tie.Need-enum-told
 enum_told c = search rules
 
-list-passed : (c : tie.After-enum-told) → first (listCauses (length c.before.before.before.before.args.coefficients.now)) ≡ none
+list-passed : (c : tie.After-enum-told) → first (list_causes (length c.before.before.before.before.args.coefficients.now)) ≡ none
 list-passed c = sym c.before.before.list-cause.ensures ∙ ap refusal c.enum_told.given.1
 
 -- ---- 4 and 5
@@ -74,22 +74,22 @@ returns-3 c =
     let p = c.before.before.before.before in
     let a = (start p).args in
     let last = beside (ltb 0 a.count) a.held in
-    let found : first (positionCauses last a.position) ≡ some (number c.before.before.cause2.given.0.0) =
+    let found : first (position_causes last a.position) ≡ some (number c.before.before.cause2.given.0.0) =
     sym p.position-cause.ensures ∙ ap refusal c.before.before.cause2.given.1 in
-    refuses _ _ _ _ c.refused3.ensures refl (others (positionCauses last a.position) (refl, (refl, tt)) found)
+    refuses _ _ _ _ c.refused3.ensures refl (others (position_causes last a.position) (refl, (refl, tt)) found)
     (append-position a.count last a.position a.coefficients.now p.before.before.before.before.if1.false (list-passed p.before) found)
 
 enum-told-2 : tie.Need-enum-told-2
 enum-told-2 c = search rules
 
 position-passed : (c : tie.After-enum-told2) → let a = (start c.before.before).args in
-    first (positionCauses (beside (ltb 0 a.count) a.held) a.position) ≡ none
+    first (position_causes (beside (ltb 0 a.count) a.held) a.position) ≡ none
 position-passed c = sym c.before.before.position-cause.ensures ∙ ap refusal c.enum-told2.given.1
 
 place : (c : tie.After-enum-told2) → let a = (start c.before.before).args in Placed (beside (ltb 0 a.count) a.held) a.position
 place c =
     let a = (start c.before.before).args in
-    let q = quiet (positionCauses (beside (ltb 0 a.count) a.held) a.position) (position-passed c) in
+    let q = quiet (position_causes (beside (ltb 0 a.count) a.held) a.position) (position-passed c) in
     placed (beside (ltb 0 a.count) a.held) a.position q.0 q.1.0
 
 -- ---- the new knot, and 6
@@ -101,10 +101,10 @@ of-requires : tie.Need-of-requires
 of-requires c κs =
     let p = c.before.before in
     let C = (start p).args.coefficients.now in
-    listed C (quiet (listCauses (length C)) (list-passed p.before)).0
+    listed C (quiet (list_causes (length C)) (list-passed p.before)).0
 
 -- the gap to it, where there is a last knot
-gap-moved : {x y : ℕ} (held : Scan) → y ≡ x → gap held x ≤ gapMax → gap held y ≤ gapMax
+gap-moved : {x y : ℕ} (held : Scan) → y ≡ x → gap held x ≤ gap_max → gap held y ≤ gap_max
 gap-moved held e h = rw e h
 
 cast-follow-reason : tie.Need-overflow-cast-follow-reason
@@ -132,7 +132,7 @@ returns-4 c =
     sizes _ _ _ _
     (append-size a.count last a.position a.coefficients.now p.before.before.before.before.if1.false (list-passed p.before)
     (position-passed o.before))
-    (f.follow-reason.ensures ∙ ap (λ s. firstTooLarge (appendProducts a.count last s)) o.of.ensures.is) c.verdict.ensures o.of.ensures
+    (f.follow-reason.ensures ∙ ap (λ s. first_too_large (append_products a.count last s)) o.of.ensures.is) c.verdict.ensures o.of.ensures
 
 pub append-cause-spec : {M : Type 1} → statement M
 append-cause-spec =

@@ -5,14 +5,14 @@ use mathlib.Core.Path.{◌≡◌, refl, sym, ◌∙◌, ap}
 use Prim.Native.Nat.{◌+◌}
 use lib.Dec.{ltb}
 use lib.ListN.{length}
-use Rattle.scans.specs.SizeRule.{sizeProducts, firstTooLarge}
-use Rattle.scans.specs.RefusalTable.{first, listCauses}
+use Rattle.scans.specs.SizeRule.{size_products, first_too_large}
+use Rattle.scans.specs.RefusalTable.{first, list_causes}
 use Rattle.knot.specs.Machine.{number, refusal}
 use Rattle.scans.proofs.Causes.{quiet, listed}
 use Rattle.scans.proofs.Reason.{others}
 use Rattle.first_cause.specs.Machine.{beside}
 use Rattle.first_cause.proofs.Finds.{refuses, sizes}
-use Rattle.scans.proofs.Order.{no_knot, correct-list, correct-size}
+use Rattle.scans.proofs.Order.{no_knot_lem, correct-list, correct-size}
 use Rattle.first_cause.proofs.changes.correct_cause.Statement.{statement}
 use Rattle.first_cause.proofs.changes.correct_cause.Tie as tie
 
@@ -25,7 +25,7 @@ returns : tie.Need-returns
 returns c =
     let a = c.before.before.args in
     refuses _ _ _ _ c.refused.ensures refl refl
-    (no_knot a.k a.count (beside (ltb 0 a.k) a.previous) a.old.position (beside (ltb (a.k + 1) a.count) a.following)
+    (no_knot_lem a.k a.count (beside (ltb 0 a.k) a.previous) a.old.position (beside (ltb (a.k + 1) a.count) a.following)
     a.coefficients.now c.before.if1.true)
 
 list-cause-requires : tie.Need-list-cause-requires
@@ -41,9 +41,9 @@ returns-2 : tie.Need-returns-2
 returns-2 c =
     let l = c.before.before.before.before in
     let a = l.before.before.args in
-    let found : first (listCauses (length a.coefficients.now)) ≡ some (number c.before.before.cause.given.0.0) =
+    let found : first (list_causes (length a.coefficients.now)) ≡ some (number c.before.before.cause.given.0.0) =
     sym l.list-cause.ensures ∙ ap refusal c.before.before.cause.given.1 in
-    refuses _ _ _ _ c.refused2.ensures refl (others (listCauses (length a.coefficients.now)) (refl, tt) found)
+    refuses _ _ _ _ c.refused2.ensures refl (others (list_causes (length a.coefficients.now)) (refl, tt) found)
     (correct-list a.k a.count (beside (ltb 0 a.k) a.previous) a.old.position (beside (ltb (a.k + 1) a.count) a.following)
     a.coefficients.now l.before.if1.false found)
 
@@ -53,7 +53,7 @@ enum_told c = search rules
 abbrev start : tie.After-enum-told → tie.Start
 start c = c.before.before.before.before
 
-list-passed : (c : tie.After-enum-told) → first (listCauses (length (start c).args.coefficients.now)) ≡ none
+list-passed : (c : tie.After-enum-told) → first (list_causes (length (start c).args.coefficients.now)) ≡ none
 list-passed c = sym c.before.before.list-cause.ensures ∙ ap refusal c.enum_told.given.1
 
 -- ---- the knot with other coefficients, and 6
@@ -62,7 +62,7 @@ add-t16 : tie.Need-overflow-add-t16
 add-t16 c = search rules
 
 of-requires : tie.Need-of-requires
-of-requires c κs = let C = (start c).args.coefficients.now in listed C (quiet (listCauses (length C)) (list-passed c)).0
+of-requires c κs = let C = (start c).args.coefficients.now in listed C (quiet (list_causes (length C)) (list-passed c)).0
 
 size-reason-requires : tie.Need-size-reason-requires
 size-reason-requires c κs =
@@ -84,7 +84,7 @@ returns-3 c =
     sizes _ _ _ _
     (correct-size a.k a.count left a.old.position right a.coefficients.now o.before.before.before.before.if1.false
     (list-passed o.before))
-    (f.size-reason.ensures ∙ ap (λ s. firstTooLarge (sizeProducts a.k left s right)) o.of.ensures.is) c.verdict.ensures o.of.ensures
+    (f.size-reason.ensures ∙ ap (λ s. first_too_large (size_products a.k left s right)) o.of.ensures.is) c.verdict.ensures o.of.ensures
 
 pub correct-cause-spec : {M : Type 1} → statement M
 correct-cause-spec =

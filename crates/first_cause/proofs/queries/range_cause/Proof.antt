@@ -1,12 +1,12 @@
 -- `first_cause::queries::range_cause` meets its contract: a return for each way the two causes can fall.
 use borrow.Author.Tests.{lt-ltb, le-ltb, le-leb, lt-leb}
 use mathlib.Core.Path.{refl, sym}
-use Rattle.scans.proofs.Order.{few-range}
+use Rattle.scans.proofs.Order.{few_range}
 use Rattle.first_cause.proofs.queries.range_cause.Statement.{statement}
 use Rattle.first_cause.proofs.queries.range_cause.Tie as tie
 
 returns : tie.Need-returns
-returns c = let a = c.before.args in sym (few-range a.count a.i a.j c.if1.true)
+returns c = let a = c.before.args in sym (few_range a.count a.i a.j c.if1.true)
 
 returns-2 : tie.Need-returns-2
 returns-2 c = rw (le-ltb _ _ c.before.if1.false, lt-ltb _ _ c.if2.true) refl

@@ -6,10 +6,10 @@ use mathlib.Core.Option.{none}
 use mathlib.Core.Path.{◌≡◌, sym, ◌∙◌, ap}
 use Prim.Native.Nat.{◌-◌}
 use native.Mathlib.Omega.{arith}
-use Rattle.scans.specs.Scan.{rightList}
-use Rattle.scans.specs.SizeRule.{sizeProducts, appendProducts, firstTooLarge}
+use Rattle.scans.specs.Scan.{right_list}
+use Rattle.scans.specs.SizeRule.{size_products, append_products, first_too_large}
 use Rattle.scans.proofs.SizeRule.{held_found, held-passed, at_gap}
-use Rattle.knot.specs.Machine.{scan, spotIn}
+use Rattle.knot.specs.Machine.{scan, spot_in}
 use Rattle.following.specs.Machine.{neighbour}
 use Rattle.following.proofs.causes.follow_reason.Statement.{statement}
 use Rattle.following.proofs.causes.follow_reason.Tie as tie
@@ -35,8 +35,8 @@ returns c =
     let b = o.before.before.before.before in
     rw o.before.before.before.if1.true
     (sym (held_found b.args.k (scan b.args.last.knot) (scan b.args.next)
-    (at_gap (b.args.k - 1) (rightList (scan b.args.last.knot)) o.before.gap.ensures o.right-reason.ensures ∙
-    ap spotIn c.before.spot.given.1)))
+    (at_gap (b.args.k - 1) (right_list (scan b.args.last.knot)) o.before.gap.ensures o.right-reason.ensures ∙
+    ap spot_in c.before.spot.given.1)))
 
 enum_told : tie.Need-enum-told
 enum_told c = search rules
@@ -46,13 +46,13 @@ size-reason-requires c κs = search rules
 
 -- a held knot of which nothing is too large, or none: what is left is the new knot
 followed : (c : tie.Joined1) → let b = c.before in
-    firstTooLarge (appendProducts b.args.k (neighbour b.args.last) (scan b.args.next)) ≡
-    firstTooLarge (sizeProducts b.args.k (neighbour b.args.last) (scan b.args.next) none)
+    first_too_large (append_products b.args.k (neighbour b.args.last) (scan b.args.next)) ≡
+    first_too_large (size_products b.args.k (neighbour b.args.last) (scan b.args.next) none)
 followed c =
     let b = c.before in
     held-passed b.args.k b.args.last.there (scan b.args.last.knot) (scan b.args.next)
     (⊎_elim
-    (λ w e. at_gap (b.args.k - 1) (rightList (scan b.args.last.knot)) w.2.ensures w.3.ensures ∙ ap spotIn w.5.given.1)
+    (λ w e. at_gap (b.args.k - 1) (right_list (scan b.args.last.knot)) w.2.ensures w.3.ensures ∙ ap spot_in w.5.given.1)
     (λ w e. absurd (true≢false (sym e ∙ w.left))) c.if1.branch)
 
 returns-2 : tie.Need-returns-2

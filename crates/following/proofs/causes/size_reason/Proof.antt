@@ -5,10 +5,10 @@ use mathlib.Core.Logic.{⊎_elim}
 use mathlib.Core.Option.{none}
 use mathlib.Core.Path.{◌≡◌, sym, ◌∙◌, ap}
 use native.Mathlib.Omega.{arith}
-use Rattle.scans.specs.Scan.{leftList, rightList, gap}
-use Rattle.scans.specs.SizeRule.{products, firstTooLarge}
+use Rattle.scans.specs.Scan.{left_list, right_list, gap}
+use Rattle.scans.specs.SizeRule.{products, first_too_large}
 use Rattle.scans.proofs.SizeRule.{left-found, left_passed, at_gap}
-use Rattle.knot.specs.Machine.{scan, spotIn}
+use Rattle.knot.specs.Machine.{scan, spot_in}
 use Rattle.following.specs.Machine.{neighbour}
 use Rattle.following.proofs.causes.size_reason.Statement.{statement}
 use Rattle.following.proofs.causes.size_reason.Tie as tie
@@ -30,7 +30,7 @@ returns c =
     let b = o.before.before.before in
     rw o.before.before.if1.true
     (sym (left-found b.args.k (scan b.args.left.knot) (scan b.args.knot) (neighbour b.args.right)
-    (at_gap b.args.k (leftList (scan b.args.knot)) o.before.gap.ensures o.left-reason.ensures ∙ ap spotIn c.before.spot.given.1)))
+    (at_gap b.args.k (left_list (scan b.args.knot)) o.before.gap.ensures o.left-reason.ensures ∙ ap spot_in c.before.spot.given.1)))
 
 enum_told : tie.Need-enum-told
 enum_told c = search rules
@@ -46,9 +46,9 @@ right-reason-requires c κs =
 -- where there is a knot on the left, nothing is too large with its gap
 left-kept : (c : tie.Joined1) → let b = c.before in
     b.args.left.there ≡ true →
-    firstTooLarge (products b.args.k (gap (scan b.args.left.knot) b.args.knot.position) (leftList (scan b.args.knot))) ≡ none
+    first_too_large (products b.args.k (gap (scan b.args.left.knot) b.args.knot.position) (left_list (scan b.args.knot))) ≡ none
 left-kept c =
-    ⊎_elim (λ w e. at_gap c.before.args.k (leftList (scan c.before.args.knot)) w.1.ensures w.2.ensures ∙ ap spotIn w.4.given.1)
+    ⊎_elim (λ w e. at_gap c.before.args.k (left_list (scan c.before.args.knot)) w.1.ensures w.2.ensures ∙ ap spot_in w.4.given.1)
     (λ w e. absurd (true≢false (sym e ∙ w.left))) c.if1.branch
 
 returns-2 : tie.Need-returns-2
@@ -56,7 +56,7 @@ returns-2 c =
     let b = c.before.before.before.before in
     rw c.before.before.if2.true
     (sym (left_passed b.args.k b.args.left.there (scan b.args.left.knot) (scan b.args.knot) (scan b.args.right.knot)
-    (left-kept c.before.before.before) ∙ at_gap b.args.k (rightList (scan b.args.knot)) c.before.gap2.ensures c.right-reason.ensures))
+    (left-kept c.before.before.before) ∙ at_gap b.args.k (right_list (scan b.args.knot)) c.before.gap2.ensures c.right-reason.ensures))
 
 returns-3 : tie.Need-returns-3
 returns-3 c = rw (c.if3.true, c.before.if2.false) (sym (left-kept c.before.before c.if3.true))

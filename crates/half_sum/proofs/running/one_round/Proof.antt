@@ -8,11 +8,11 @@ use lib.IntN.{ℤ, ◌+ℤ◌}
 use mir.Syntax.{w64}
 use mir.Val.{SFits, to_z, of_z}
 use mir.Facts.{to_z-of_z}
-use Rattle.integer.specs.Sum.{sum as Sum·sum}
-use Rattle.integer.proofs.Within.{within-fits, computed-is}
+use Rattle.integer.specs.Sum
+use Rattle.integer.proofs.Within.{within-fits, computed_is}
 use Rattle.hermite.specs.Polynomial.{coefficient}
-use Rattle.hermite.specs.RunningSums.{oneRound, rounds}
-use Rattle.knot_weights.proofs.Lists.{Replaced, replaced-more, replaced-lists}
+use Rattle.hermite.specs.RunningSums.{one_round, rounds}
+use Rattle.knot_weights.proofs.Lists.{Replaced, replaced_more, replaced_lists}
 use Rattle.half_sum.proofs.running.one_round.Statement.{statement}
 use Rattle.half_sum.proofs.running.one_round.Tie as tie
 
@@ -24,12 +24,12 @@ abbrev decreases-loop : tie.decreases-loop
 decreases-loop w₀ sum₀ ahead₀ w sum ahead = ahead
 
 -- one entry more
-next-is : (w : ℕ → ℤ) (x : ℤ) (k : ℕ) → x ≡ rounds 1 w k → x +ℤ w (suc k) ≡ rounds 1 w (suc k)
-unfolding rounds oneRound Sum·sum
-next-is w x k e = ap (λ z. z +ℤ w (suc k)) e
+next_is : (w : ℕ → ℤ) (x : ℤ) (k : ℕ) → x ≡ rounds 1 w k → x +ℤ w (suc k) ≡ rounds 1 w (suc k)
+unfolding rounds one_round Sum.sum
+next_is w x k e = ap (λ z. z +ℤ w (suc k)) e
 
 first-is : (w : ℕ → ℤ) → w 0 ≡ rounds 1 w 0
-unfolding rounds oneRound Sum·sum
+unfolding rounds one_round Sum.sum
 first-is w = refl
 
 none_is : (w : ℕ → ℤ) (j : ℕ) → rounds 0 w j ≡ w j
@@ -48,11 +48,11 @@ module _ (c : tie.After-sum2 invariant-loop decreases-loop) where
   abbrev b : tie.Start invariant-loop decreases-loop
   b = c.before.before.before.before
 
-  entry-is : let l = c.before.before in
+  entry_is : let l = c.before.before in
       to_z w64 (of_z w64 (coefficient l.loop.w (8 - l.loop.ahead))) ≡ coefficient b.args.w.now (8 - l.loop.ahead)
-  entry-is =
+  entry_is =
       let l = c.before.before in
-      computed-is (l.loop.invariant.2.left (8 - l.loop.ahead) (omega arith) (omega arith)) (entry-fits b (8 - l.loop.ahead) (omega arith))
+      computed_is (l.loop.invariant.2.left (8 - l.loop.ahead) (omega arith) (omega arith)) (entry-fits b (8 - l.loop.ahead) (omega arith))
 
   sum_is : let l = c.before.before in
       to_z w64 l.loop.sum +ℤ to_z w64 (of_z w64 (coefficient l.loop.w (8 - l.loop.ahead))) ≡
@@ -60,8 +60,8 @@ module _ (c : tie.After-sum2 invariant-loop decreases-loop) where
   sum_is =
       let l = c.before.before in
       let here : 8 - l.loop.ahead ≡ suc (7 - l.loop.ahead) = omega arith in
-      ap (λ z. to_z w64 l.loop.sum +ℤ z) entry-is ∙
-      rw here (next-is (coefficient b.args.w.now) (to_z w64 l.loop.sum) (7 - l.loop.ahead) l.loop.invariant.1)
+      ap (λ z. to_z w64 l.loop.sum +ℤ z) entry_is ∙
+      rw here (next_is (coefficient b.args.w.now) (to_z w64 l.loop.sum) (7 - l.loop.ahead) l.loop.invariant.1)
 
   fits : let l = c.before.before in SFits w64 (rounds 1 (coefficient b.args.w.now) (8 - l.loop.ahead))
   fits = sum_fits b (8 - c.before.before.loop.ahead) (omega arith)
@@ -80,11 +80,11 @@ loop-again c =
     let l = c.before.before in
     let there : 7 - (l.loop.ahead - 1) ≡ 8 - l.loop.ahead = omega arith in
     let next : 8 - (l.loop.ahead - 1) ≡ 8 - l.loop.ahead + 1 = omega arith in
-    let sum = computed-is (sum_is c) (fits c) in
-    (omega arith, rw there sum, rw next (replaced-more _ l.loop.invariant.2 (omega arith) sum))
+    let sum = computed_is (sum_is c) (fits c) in
+    (omega arith, rw there sum, rw next (replaced_more _ l.loop.invariant.2 (omega arith) sum))
 
 returns : tie.Need-returns invariant-loop decreases-loop
-returns c = replaced-lists c.before.loop.invariant.2 (λ j h k. absurd (omega arith))
+returns c = replaced_lists c.before.loop.invariant.2 (λ j h k. absurd (omega arith))
 
 -- ---- the needs
 

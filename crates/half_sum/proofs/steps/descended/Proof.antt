@@ -8,12 +8,12 @@ use mir.Syntax.{w64}
 use mir.Val.{SFits, to_z, of_z}
 use mir.Facts.{to_z-of_z}
 use Rattle.integer.specs.Within.{Within}
-use Rattle.hermite.specs.HalfSum.{valueUnit}
+use Rattle.hermite.specs.HalfSum.{value_unit}
 use Rattle.hermite.specs.Polynomial.{coefficient}
 use Rattle.rounding.specs.HalfSum.{descended}
 use Rattle.rounding.specs.Scaling.{scaled}
 use Rattle.rounding.proofs.Bounds.{descended-fits}
-use Rattle.integer.proofs.Within.{within-natural, within-mul, within-fits, computed-is, result-is}
+use Rattle.integer.proofs.Within.{within-natural, within_mul, within-fits, computed_is, result_is}
 use Rattle.half_sum.proofs.steps.descended.Statement.{statement}
 use Rattle.half_sum.proofs.steps.descended.Tie as tie
 
@@ -24,11 +24,11 @@ abbrev decreases-loop : tie.decreases-loop
 decreases-loop m s g i₀ u₀ i u = i
 
 module _ (b : tie.Start invariant-loop decreases-loop) where
-  unit-is : (j : ℕ) → j ≤ 7 → pos valueUnit *ℤ to_z w64 (of_z w64 (coefficient b.args.g.now j)) ≡ pos valueUnit *ℤ coefficient b.args.g.now j
-  unit-is j h = ap (λ z. pos valueUnit *ℤ z) (to_z-of_z (within-fits w64 (coefficient b.args.g.now j) (lit< tt) (b.requires.2.small j h)))
+  unit-is : (j : ℕ) → j ≤ 7 → pos value_unit *ℤ to_z w64 (of_z w64 (coefficient b.args.g.now j)) ≡ pos value_unit *ℤ coefficient b.args.g.now j
+  unit-is j h = ap (λ z. pos value_unit *ℤ z) (to_z-of_z (within-fits w64 (coefficient b.args.g.now j) (lit< tt) (b.requires.2.small j h)))
 
-  unit-fits : (j : ℕ) → j ≤ 7 → SFits w64 (pos valueUnit *ℤ coefficient b.args.g.now j)
-  unit-fits j h = within-fits w64 _ (lit< tt) (within-mul (pos valueUnit) (coefficient b.args.g.now j) (within-natural valueUnit) (b.pre.2.small j h))
+  unit-fits : (j : ℕ) → j ≤ 7 → SFits w64 (pos value_unit *ℤ coefficient b.args.g.now j)
+  unit-fits j h = within-fits w64 _ (lit< tt) (within_mul (pos value_unit) (coefficient b.args.g.now j) (within-natural value_unit) (b.pre.2.small j h))
 
   u-within : (k i : ℕ) → i + k ≤ 7 → Within (2 ^ 63 - 1) (descended (coefficient b.args.g.now) b.args.s.a b.args.s.d k i)
   u-within k i h = descended-fits (coefficient b.args.g.now) b.args.s.a b.args.s.d k i b.pre.1.divides.at_least
@@ -42,11 +42,11 @@ unfolding descended
 loop-holds c =
     let b = c.before in
     let none : b.args.m - b.args.m ≡ 0 = omega arith in
-    (omega arith, rw none (computed-is (unit-is b b.args.m b.requires.0) (unit-fits b b.args.m b.requires.0)))
+    (omega arith, rw none (computed_is (unit-is b b.args.m b.requires.0) (unit-fits b b.args.m b.requires.0)))
 
 -- one turn more
 turn : (c : tie.After-u2 invariant-loop decreases-loop) → let l = c.before.before.before in let b = l.before.before in
-    to_z w64 (of_z w64 c.before.scaled.result) +ℤ to_z w64 (of_z w64 (pos valueUnit *ℤ to_z w64 (of_z w64 (coefficient b.args.g.now (l.loop.i - 1))))) ≡
+    to_z w64 (of_z w64 c.before.scaled.result) +ℤ to_z w64 (of_z w64 (pos value_unit *ℤ to_z w64 (of_z w64 (coefficient b.args.g.now (l.loop.i - 1))))) ≡
     descended (coefficient b.args.g.now) b.args.s.a b.args.s.d (b.args.m - (l.loop.i - 1)) (l.loop.i - 1)
 unfolding descended
 turn c =
@@ -59,9 +59,9 @@ turn c =
       back,
       unit-is b (l.loop.i - 1) (omega arith),
       to_z-of_z (unit-fits b (l.loop.i - 1) (omega arith)),
-      result-is c.before.scaled.result c.before.scaled.type-inv,
+      result_is c.before.scaled.result c.before.scaled.type-inv,
     )
-    (ap (λ z. z +ℤ pos valueUnit *ℤ coefficient b.args.g.now (l.loop.i - 1))
+    (ap (λ z. z +ℤ pos value_unit *ℤ coefficient b.args.g.now (l.loop.i - 1))
     (c.before.scaled.ensures ∙ ap (λ z. scaled z b.args.s.a b.args.s.d) l.loop.invariant.1))
 
 loop-again : tie.Need-loop-preserved invariant-loop decreases-loop

@@ -5,25 +5,25 @@ use Prim.Native.Nat.{ℕ, suc, ◌+◌, ◌-◌}
 use native.Mathlib.Omega.{arith}
 use lib.IntN.{ℤ}
 use mir.Facts.{to_z-of_z}
-use Rattle.integer.proofs.Within.{result-is}
-use Rattle.rounding.specs.Scaling.{scaledTimes}
-use Rattle.half_sum.specs.Machine.{lowerStep3}
+use Rattle.integer.proofs.Within.{result_is}
+use Rattle.rounding.specs.Scaling.{scaled_times}
+use Rattle.half_sum.specs.Machine.{lower_step_3}
 use Rattle.half_sum.proofs.steps.lower_step_3.Statement.{statement}
 use Rattle.half_sum.proofs.steps.lower_step_3.Tie as tie
 
 returns : tie.Need-returns
-unfolding lowerStep3
+unfolding lower_step_3
 returns c = rw c.if1.true refl
 
-one_lower : (m k n b d : ℕ) (u : ℤ) → m ≡ suc k → scaledTimes (n + 1) u b d ≡ lowerStep3 m n b d u
-unfolding lowerStep3
+one_lower : (m k n b d : ℕ) (u : ℤ) → m ≡ suc k → scaled_times (n + 1) u b d ≡ lower_step_3 m n b d u
+unfolding lower_step_3
 one_lower m k n b d u e = rw e refl
 
 returns-2 : tie.Need-returns-2
 returns-2 c =
     let b = c.before.before in
-    result-is c.scaled-times.result c.scaled-times.type-inv ∙ c.scaled-times.ensures ∙
-    ap (λ z. scaledTimes (b.args.n + 1) z b.args.complement.a b.args.complement.d) (to_z-of_z b.ranges.u) ∙
+    result_is c.scaled-times.result c.scaled-times.type-inv ∙ c.scaled-times.ensures ∙
+    ap (λ z. scaled_times (b.args.n + 1) z b.args.complement.a b.args.complement.d) (to_z-of_z b.ranges.u) ∙
     one_lower b.args.m (b.args.m - 1) b.args.n b.args.complement.a b.args.complement.d b.args.u (omega arith)
 
 -- ---- the needs

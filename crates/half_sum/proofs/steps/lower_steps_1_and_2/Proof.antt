@@ -7,25 +7,25 @@ use lib.IntN.{ℤ}
 use Rattle.hermite.specs.Polynomial.{coefficient}
 use Rattle.hermite.specs.Slope.{primed}
 use Rattle.knot_weights.proofs.Lists.{primed-weights}
-use Rattle.integer.proofs.Within.{result-is}
-use Rattle.half_sum.specs.Machine.{steps1And2, lowerSteps1And2}
-use Rattle.rounding.proofs.Agree.{steps-1-and-2-agree}
+use Rattle.integer.proofs.Within.{result_is}
+use Rattle.half_sum.specs.Machine.{steps_1_and_2, lower_steps_1_and_2}
+use Rattle.rounding.proofs.Agree.{steps_1_and_2_agree}
 use Rattle.half_sum.proofs.steps.lower_steps_1_and_2.Statement.{statement}
 use Rattle.half_sum.proofs.steps.lower_steps_1_and_2.Tie as tie
 
 returns : tie.Need-returns
-unfolding lowerSteps1And2
+unfolding lower_steps_1_and_2
 returns c = rw c.if1.true refl
 
-one_lower : (m k n a d : ℕ) (w : ℕ → ℤ) → m ≡ suc k → steps1And2 k n a d (primed w) ≡ lowerSteps1And2 m n a d w
-unfolding lowerSteps1And2
+one_lower : (m k n a d : ℕ) (w : ℕ → ℤ) → m ≡ suc k → steps_1_and_2 k n a d (primed w) ≡ lower_steps_1_and_2 m n a d w
+unfolding lower_steps_1_and_2
 one_lower m k n a d w e = rw e refl
 
 returns-2 : tie.Need-returns-2
 returns-2 c =
     let b = c.before.before.before.before.before in
-    result-is c.steps-1-and-2.result c.steps-1-and-2.type-inv ∙ c.steps-1-and-2.ensures.0 ∙
-    steps-1-and-2-agree (b.args.m - 1) b.args.n b.args.s.a b.args.s.d (λ j h. c.before.before.primed.ensures.entry j (omega arith)) ∙
+    result_is c.steps-1-and-2.result c.steps-1-and-2.type-inv ∙ c.steps-1-and-2.ensures.0 ∙
+    steps_1_and_2_agree (b.args.m - 1) b.args.n b.args.s.a b.args.s.d (λ j h. c.before.before.primed.ensures.entry j (omega arith)) ∙
     one_lower b.args.m (b.args.m - 1) b.args.n b.args.s.a b.args.s.d (coefficient b.args.w.now) (omega arith)
 
 -- ---- the needs

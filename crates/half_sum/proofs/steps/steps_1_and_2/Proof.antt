@@ -5,10 +5,10 @@ use Prim.Native.Nat.{◌*◌}
 use native.Mathlib.Omega.{arith}
 use Rattle.hermite.specs.HalfSum.{g}
 use Rattle.hermite.specs.Polynomial.{coefficient}
-use Rattle.rounding.specs.Limits.{sizeMax}
+use Rattle.rounding.specs.Limits.{size_max}
 use Rattle.rounding.proofs.Agree.{descended-agree}
 use Rattle.rounding.proofs.Bounds.{g_within}
-use Rattle.integer.proofs.Within.{result-is}
+use Rattle.integer.proofs.Within.{result_is}
 use Rattle.knot_weights.specs.Machine.{Lists}
 use Rattle.half_sum.proofs.RunningSums.{lists-sums}
 use Rattle.half_sum.proofs.steps.steps_1_and_2.Statement.{statement}
@@ -22,7 +22,7 @@ returns : tie.Need-returns
 returns c =
     let b = c.before.before.before.before.before in
     let g = sums c.before.before.before in (
-      result-is c.descended.result c.descended.type-inv ∙ c.descended.ensures ∙
+      result_is c.descended.result c.descended.type-inv ∙ c.descended.ensures ∙
           descended-agree b.args.s.a b.args.s.d b.args.m 0 (λ j h. g.entry j (omega arith)),
       g,
     )
@@ -44,7 +44,7 @@ descended-requires c κs =
       record {
         count = g.count;
         small = λ j h. rw (g.entry j h)
-            (g_within (7 * sizeMax) b.args.n j (coefficient b.args.w.now) b.requires.1 h (λ i k. b.requires.3.small i (omega arith)));
+            (g_within (7 * size_max) b.args.n j (coefficient b.args.w.now) b.requires.1 h (λ i k. b.requires.3.small i (omega arith)));
       },
     )
 

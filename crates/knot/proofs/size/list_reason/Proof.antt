@@ -1,6 +1,6 @@
 -- `knot::size::list_reason` meets its contract. After j turns the first j products are at most the limit, and power is h^j.
 use borrow.Author.Count.{below_more}
-use borrow.Author.Tests.{ltb-true, ltb-false}
+use borrow.Author.Tests.{ltb-true, ltb_false}
 use mathlib.Core.Bool.{true, false, true≢false}
 use mathlib.Core.Logic.{⊎_elim}
 use mathlib.Core.Path.{◌≡◌, sym, ◌∙◌, ap, ap₂, subst}
@@ -16,30 +16,30 @@ use mir.Syntax.{w32, w64}
 use mir.Val.{SFits, to_z, of_z}
 use mir.Facts.{to_z-of_z, sfits_widen}
 use Rattle.integer.specs.Within.{Within}
-use Rattle.integer.proofs.Within.{fits-within, wide_is, within-natural, within_more, within-mul, within-fits, computed-is, size-times}
-use Rattle.rounding.specs.Limits.{sizeMax}
+use Rattle.integer.proofs.Within.{fits-within, wide_is, within-natural, within_more, within_mul, within-fits, computed_is, size-times}
+use Rattle.rounding.specs.Limits.{size_max}
 use Rattle.rounding.specs.Size.{product}
 use Rattle.rounding.proofs.Bounds.{power_small}
-use Rattle.scans.proofs.SizeRule.{sized-kept, order-found}
+use Rattle.scans.proofs.SizeRule.{sized_kept, order-found}
 use Rattle.knot.proofs.size.list_reason.Statement.{statement}
 use Rattle.knot.proofs.size.list_reason.Tie as tie
 
 -- ---- a number above the limit, below its opposite, and one that is neither
 
-above : (z : ℤ) → lt_z (pos sizeMax) z ≡ true → sizeMax < nat_abs z
-above (pos n) e = ltb-true sizeMax n e
+above : (z : ℤ) → lt_z (pos size_max) z ≡ true → size_max < nat_abs z
+above (pos n) e = ltb-true size_max n e
 above (negsuc n) e = absurd (true≢false (sym e))
 
-below : (z : ℤ) → lt_z z (negsuc (sizeMax - 1)) ≡ true → sizeMax < nat_abs z
+below : (z : ℤ) → lt_z z (negsuc (size_max - 1)) ≡ true → size_max < nat_abs z
 below (pos n) e = absurd (true≢false (sym e))
-below (negsuc n) e = omega (arith, ltb-true (sizeMax - 1) n e)
+below (negsuc n) e = omega (arith, ltb-true (size_max - 1) n e)
 
-neither : (z : ℤ) → lt_z (pos sizeMax) z ≡ false → lt_z z (negsuc (sizeMax - 1)) ≡ false → nat_abs z ≤ sizeMax
-neither (pos n) p q = ltb-false sizeMax n p
-neither (negsuc n) p q = omega (arith, ltb-false (sizeMax - 1) n q)
+neither : (z : ℤ) → lt_z (pos size_max) z ≡ false → lt_z z (negsuc (size_max - 1)) ≡ false → nat_abs z ≤ size_max
+neither (pos n) p q = ltb_false size_max n p
+neither (negsuc n) p q = omega (arith, ltb_false (size_max - 1) n q)
 
 abbrev invariant-loop : tie.invariant-loop
-invariant-loop k h c power₀ j₀ power j = (j ≤ length c) × (power ≡ h ^ j) × ((i : ℕ) → i < j → product h c i ≤ sizeMax)
+invariant-loop k h c power₀ j₀ power j = (j ≤ length c) × (power ≡ h ^ j) × ((i : ℕ) → i < j → product h c i ≤ size_max)
 
 abbrev decreases-loop : tie.decreases-loop
 decreases-loop k h c power₀ j₀ power j = length c - j
@@ -79,13 +79,13 @@ module _ (c : tie.After-product invariant-loop decreases-loop) where
   fits = record { sfits = c.product.given }
 
   formed-fits : SFits w64 (pos l.loop.power *ℤ this)
-  formed-fits = within-fits w64 _ (lit< tt) (within-mul (pos l.loop.power) this (power-within c.before) (fits-within w32 this fits))
+  formed-fits = within-fits w64 _ (lit< tt) (within_mul (pos l.loop.power) this (power-within c.before) (fits-within w32 this fits))
 
   factors : to_z w64 l.loop.power *ℤ to_z w64 (of_z w64 (to_z w32 (of_z w32 this))) ≡ pos l.loop.power *ℤ this
   factors = ap₂ (λ x y. x *ℤ y) (to_z-of_z (power-fits c.before)) (wide_is this fits)
 
   formed-is : to_z w64 (of_z w64 (to_z w64 l.loop.power *ℤ to_z w64 (of_z w64 (to_z w32 (of_z w32 this))))) ≡ pos l.loop.power *ℤ this
-  formed-is = computed-is factors formed-fits
+  formed-is = computed_is factors formed-fits
 
   size_is : nat_abs (pos l.loop.power *ℤ this) ≡ product l.before.args.h l.before.args.c.now l.loop.j
   size_is = size-times l.loop.power this ∙ mul_comm l.loop.power (nat_abs this) ∙ ap (λ p. nat_abs this * p) l.loop.inv.1
@@ -97,7 +97,7 @@ mul-product-2 : tie.Need-overflow-mul-product-2 invariant-loop decreases-loop
 mul-product-2 c = subst (SFits w64) (sym (factors c)) (formed-fits c)
 
 -- it exceeds the limit
-exceeded : (c : tie.Joined1 invariant-loop decreases-loop) → let a = l c.before in sizeMax < product a.before.args.h a.before.args.c.now a.loop.j
+exceeded : (c : tie.Joined1 invariant-loop decreases-loop) → let a = l c.before in size_max < product a.before.args.h a.before.args.c.now a.loop.j
 exceeded c =
     let p = c.before in
     let formed = pos (l p).loop.power *ℤ this p in
@@ -137,7 +137,7 @@ loop-again c =
 returns-2 : tie.Need-returns-2 invariant-loop decreases-loop
 returns-2 c =
     let a = c.before in
-    sym (sized-kept a.before.args.k a.before.args.h a.before.args.c.now (λ j b. a.loop.invariant.2 j (omega arith)))
+    sym (sized_kept a.before.args.k a.before.args.h a.before.args.c.now (λ j b. a.loop.invariant.2 j (omega arith)))
 
 pub list-reason-spec : {M : Type 1} → statement M
 list-reason-spec =

@@ -8,50 +8,50 @@ use lib.ListN.{get_or-eq_default}
 use mir.Syntax.{w64}
 use mir.Val.{SFits, to_z, of_z}
 use mir.Facts.{to_z-of_z, to_z_pos}
-use Rattle.hermite.specs.Slope.{primed as Slope·primed}
+use Rattle.hermite.specs.Slope
 use Rattle.integer.specs.Within.{Within}
-use Rattle.integer.proofs.Within.{within-fits, computed-is}
+use Rattle.integer.proofs.Within.{within-fits, computed_is}
 use Rattle.hermite.specs.Polynomial.{coefficient}
-use Rattle.rounding.specs.Limits.{sizeMax}
+use Rattle.rounding.specs.Limits.{size_max}
 use Rattle.rounding.proofs.Bounds.{primed-within}
-use Rattle.knot_weights.proofs.Lists.{Replaced, replaced-zeros, replaced-more, replaced-lists}
+use Rattle.knot_weights.proofs.Lists.{Replaced, replaced_zeros, replaced_more, replaced_lists}
 use Rattle.knot_weights.proofs.powers.primed.Statement.{statement}
 use Rattle.knot_weights.proofs.powers.primed.Tie as tie
 
 abbrev invariant-loop : tie.invariant-loop
-invariant-loop w v₀ j₀ v j = (j ≤ 7) × (Replaced v (λ j. pos 0) (Slope·primed (coefficient w)) j)
+invariant-loop w v₀ j₀ v j = (j ≤ 7) × (Replaced v (λ j. pos 0) (Slope.primed (coefficient w)) j)
 
 abbrev decreases-loop : tie.decreases-loop
 decreases-loop w v₀ j₀ v j = 7 - j
 
 loop-holds : tie.Need-loop-init invariant-loop decreases-loop
-loop-holds c = (omega arith, rw c.requires.1 (replaced-zeros _))
+loop-holds c = (omega arith, rw c.requires.1 (replaced_zeros _))
 
 module _ (c : tie.After-v invariant-loop decreases-loop) where
-  held_small : let l = c.before.before in Within sizeMax (coefficient l.before.args.w.now (l.loop.j + 1))
+  held_small : let l = c.before.before in Within size_max (coefficient l.before.args.w.now (l.loop.j + 1))
   held_small = let l = c.before.before in l.before.requires.0.small (l.loop.j + 1) (omega arith)
 
   held_fits : let l = c.before.before in SFits w64 (coefficient l.before.args.w.now (l.loop.j + 1))
   held_fits = let l = c.before.before in within-fits w64 (coefficient l.before.args.w.now (l.loop.j + 1)) (lit< tt) held_small
 
   product_is : let l = c.before.before in
-      to_z w64 (l.loop.j + 1) *ℤ to_z w64 (of_z w64 (coefficient l.before.args.w.now (l.loop.j + 1))) ≡ Slope·primed
+      to_z w64 (l.loop.j + 1) *ℤ to_z w64 (of_z w64 (coefficient l.before.args.w.now (l.loop.j + 1))) ≡ Slope.primed
       (coefficient l.before.args.w.now) l.loop.j
-  unfolding Slope·primed
+  unfolding Slope.primed
   product_is = rw (to_z-of_z held_fits, to_z_pos w64 {n = c.before.before.loop.j + 1} (omega arith)) refl
 
-  weight-fits : let l = c.before.before in SFits w64 (Slope·primed (coefficient l.before.args.w.now) l.loop.j)
+  weight-fits : let l = c.before.before in SFits w64 (Slope.primed (coefficient l.before.args.w.now) l.loop.j)
   weight-fits =
       let l = c.before.before in within-fits w64 _ (lit< tt) (primed-within (coefficient l.before.args.w.now) l.loop.j (omega arith) held_small)
 
 loop-again : tie.Need-loop-preserved invariant-loop decreases-loop
 loop-again c =
     let l = c.before.before in
-    (omega arith, replaced-more _ l.loop.invariant.1 (omega arith) (computed-is (product_is c) (weight-fits c)))
+    (omega arith, replaced_more _ l.loop.invariant.1 (omega arith) (computed_is (product_is c) (weight-fits c)))
 
 returns : tie.Need-returns invariant-loop decreases-loop
-unfolding Slope·primed
-returns c = replaced-lists c.before.loop.invariant.1 (λ j h b. sym
+unfolding Slope.primed
+returns c = replaced_lists c.before.loop.invariant.1 (λ j h b. sym
     (ap (λ x. pos (j + 1) *ℤ x) (get_or-eq_default c.before.before.args.w.now (pos 0) (omega (arith, c.before.before.requires.0.count))) ∙
     *ℤ-zero (pos (j + 1))))
 

@@ -4,7 +4,7 @@ use native.Mathlib.Omega.{arith}
 use mir.Syntax.{w64}
 use mir.Facts.{to_z_pos}
 use Rattle.integer.proofs.Within.{within-natural, within_more}
-use Rattle.knot_weights.specs.Machine.{byPowers}
+use Rattle.knot_weights.specs.Machine.{by_powers}
 use Rattle.knot_weights.proofs.SignedPowers.{left-powers}
 use Rattle.knot_weights.proofs.powers.weights.Statement.{statement}
 use Rattle.knot_weights.proofs.powers.weights.Tie as tie
@@ -22,7 +22,7 @@ returns c =
     let b = c.before.before in
     record {
       count = c.by-powers.ensures.count;
-      entry = λ j h. c.by-powers.ensures.entry j h ∙ ap (λ z. byPowers z b.args.c.now j) (to_z_pos w64 {n = b.args.h} (omega (arith, b.requires.0))) ∙
+      entry = λ j h. c.by-powers.ensures.entry j h ∙ ap (λ z. by_powers z b.args.c.now j) (to_z_pos w64 {n = b.args.h} (omega (arith, b.requires.0))) ∙
           left-powers b.args.h b.args.c.now j;
     }
 

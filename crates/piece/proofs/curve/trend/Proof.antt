@@ -10,23 +10,23 @@ use lib.IntN.{ℤ, ◌+ℤ◌, ◌-ℤ◌}
 use mir.Syntax.{w64}
 use mir.Val.{SFits, to_z, of_z}
 use Rattle.integer.specs.Within.{Within}
-use Rattle.hermite.specs.Blend.{rightWeights}
+use Rattle.hermite.specs.Blend.{right_weights}
 use Rattle.hermite.specs.Polynomial.{coefficient}
 use Rattle.hermite.specs.Slope.{K}
-use Rattle.rounding.specs.HalfSum.{lowerHalfSum}
-use Rattle.rounding.specs.Limits.{sizeMax}
+use Rattle.rounding.specs.HalfSum.{lower_half_sum}
+use Rattle.rounding.specs.Limits.{size_max}
 use Rattle.rounding.specs.Piece.{Piece, piece, m, n, p, q, D}
 use Rattle.rounding.specs.Scaling.{scaled}
 use Rattle.rounding.specs.Size.{Admitted}
-use Rattle.rounding.specs.Trend.{Y1, Y2, Y3, scaledK, trend}
-use Rattle.rounding.proofs.Agree.{sumK-agree}
-use Rattle.rounding.proofs.Fits.{left-grade, right-grade, left-weight, right-weight, K-within, difference-within, slope-within}
+use Rattle.rounding.specs.Trend.{Y1, Y2, Y3, scaled_k, trend}
+use Rattle.rounding.proofs.Agree.{sum_k-agree}
+use Rattle.rounding.proofs.Fits.{left-grade, right-grade, left-weight, right-weight, K_within, difference_within, slope-within}
 use Rattle.rounding.proofs.Scaling.{divided}
-use Rattle.half_sum.specs.Machine.{lowerSteps1And2}
-use Rattle.half_sum.proofs.Parts.{lower-half-sum-is, lower-steps-1-and-2-fit}
+use Rattle.half_sum.specs.Machine.{lower_steps_1_and_2}
+use Rattle.half_sum.proofs.Parts.{lower-half-sum_is, lower-steps_1_and_2_fit}
 use Rattle.knot_weights.specs.Machine.{Weights}
 use Rattle.knot_weights.proofs.Lists.{listed-weights}
-use Rattle.integer.proofs.Within.{within-fits, computed-is, result-is}
+use Rattle.integer.proofs.Within.{within-fits, computed_is, result_is}
 use Rattle.scaling.specs.Machine.{Complements}
 use Rattle.scaling.specs.declared.fraction.Fraction.{Fraction}
 use Rattle.scaling.proofs.Complements.{complements, exchanged}
@@ -75,11 +75,11 @@ module _ (e : tie.After-right-weights) where
   complement-is : complement.a ≡ D (P e) - at e
   complement-is = omega (arith, pair.together, D-is, r-is)
 
-  left-small : Weights sizeMax (left e)
+  left-small : Weights size_max (left e)
   left-small =
       listed-weights e.before.before.weights.ensures (left-weight (P e) (admitted e))
 
-  right-small : Weights sizeMax (right e)
+  right-small : Weights size_max (right e)
   right-small =
       listed-weights e.right-weights.ensures (right-weight (P e) (admitted e))
 
@@ -93,14 +93,14 @@ module _ (c : tie.After-sum-k2) where
   unfolding K
   k-is =
       ap₂ (λ x y. x -ℤ y)
-      (result-is c.before.before.sum-k.result c.before.before.sum-k.type-inv ∙ c.before.before.sum-k.ensures.0 ∙
-      sumK-agree (n (P weighed)) (m (P weighed)) (λ j h. weighed.right-weights.ensures.entry j (le_trans h (right-grade (P weighed) (admitted weighed)))))
-      (result-is c.sum-k2.result c.sum-k2.type-inv ∙ c.sum-k2.ensures.0 ∙
-      sumK-agree (m (P weighed)) (n (P weighed))
+      (result_is c.before.before.sum-k.result c.before.before.sum-k.type-inv ∙ c.before.before.sum-k.ensures.0 ∙
+      sum_k-agree (n (P weighed)) (m (P weighed)) (λ j h. weighed.right-weights.ensures.entry j (le_trans h (right-grade (P weighed) (admitted weighed)))))
+      (result_is c.sum-k2.result c.sum-k2.type-inv ∙ c.sum-k2.ensures.0 ∙
+      sum_k-agree (m (P weighed)) (n (P weighed))
       (λ j h. weighed.before.before.weights.ensures.entry j (le_trans h (left-grade (P weighed) (admitted weighed)))))
 
   k-fits : SFits w64 (K (m (P weighed)) (n (P weighed)) (p (P weighed)) (q (P weighed)))
-  k-fits = within-fits w64 _ (lit< tt) (K-within (P weighed) (admitted weighed))
+  k-fits = within-fits w64 _ (lit< tt) (K_within (P weighed) (admitted weighed))
 
 -- u of both half-sums
 module _ (c : tie.After-sum-k2) where
@@ -110,23 +110,23 @@ module _ (c : tie.After-sum-k2) where
   abbrev second : tie.After-lower-steps-1-and-22
   second = c.before.before.before.before
 
-  u-is : to_z w64 (of_z w64 first.lower-steps-1-and-2.result) ≡ lowerSteps1And2 (m (P (weighed c))) (n (P (weighed c))) (s (weighed c)).a (s (weighed c)).d
+  u-is : to_z w64 (of_z w64 first.lower-steps-1-and-2.result) ≡ lower_steps_1_and_2 (m (P (weighed c))) (n (P (weighed c))) (s (weighed c)).a (s (weighed c)).d
       (coefficient (left (weighed c)))
-  u-is = result-is first.lower-steps-1-and-2.result first.lower-steps-1-and-2.ok ∙ first.lower-steps-1-and-2.ensures
+  u-is = result_is first.lower-steps-1-and-2.result first.lower-steps-1-and-2.ok ∙ first.lower-steps-1-and-2.ensures
 
   u-fits : Within (2 ^ 63 - 1) (to_z w64 (of_z w64 first.lower-steps-1-and-2.result))
   u-fits =
       let e = weighed c in
-      rw u-is (lower-steps-1-and-2-fit (pair e).prepared (n (P e)) (right-grade (P e) (admitted e)) (m (P e)) (left-grade (P e) (admitted e)) (left-small e))
+      rw u-is (lower-steps_1_and_2_fit (pair e).prepared (n (P e)) (right-grade (P e) (admitted e)) (m (P e)) (left-grade (P e) (admitted e)) (left-small e))
 
-  v-is : to_z w64 (of_z w64 second.lower-steps-1-and-22.result) ≡ lowerSteps1And2 (n (P (weighed c))) (m (P (weighed c))) (complement (weighed c)).a
+  v-is : to_z w64 (of_z w64 second.lower-steps-1-and-22.result) ≡ lower_steps_1_and_2 (n (P (weighed c))) (m (P (weighed c))) (complement (weighed c)).a
       (complement (weighed c)).d (coefficient (right (weighed c)))
-  v-is = result-is second.lower-steps-1-and-22.result second.lower-steps-1-and-22.ok ∙ second.lower-steps-1-and-22.ensures
+  v-is = result_is second.lower-steps-1-and-22.result second.lower-steps-1-and-22.ok ∙ second.lower-steps-1-and-22.ensures
 
   v-fits : Within (2 ^ 63 - 1) (to_z w64 (of_z w64 second.lower-steps-1-and-22.result))
   v-fits =
       let e = weighed c in
-      rw v-is (lower-steps-1-and-2-fit (pair e).other (m (P e)) (left-grade (P e) (admitted e)) (n (P e)) (right-grade (P e) (admitted e)) (right-small e))
+      rw v-is (lower-steps_1_and_2_fit (pair e).other (m (P e)) (left-grade (P e) (admitted e)) (n (P e)) (right-grade (P e) (admitted e)) (right-small e))
 
 -- Y1, Y2, Y3, and Y1 − Y2 + Y3
 module _ (c : tie.After-scaled-k) where
@@ -136,42 +136,42 @@ module _ (c : tie.After-scaled-k) where
   y1-is : to_z w64 (of_z w64 c.before.before.lower-step-3.result) ≡ Y1 (P made) (at made)
   unfolding Y1
   y1-is =
-      result-is c.before.before.lower-step-3.result c.before.before.lower-step-3.type-inv ∙
-      lower-half-sum-is (pair made) (m (P made)) (n (P made))
+      result_is c.before.before.lower-step-3.result c.before.before.lower-step-3.type-inv ∙
+      lower-half-sum_is (pair made) (m (P made)) (n (P made))
       (λ j h. made.before.before.weights.ensures.entry j (le_trans h (left-grade (P made) (admitted made))))
       (u-is c.before.before.before) c.before.before.lower-step-3.ensures ∙
-      ap₂ (λ a d. lowerHalfSum (m (P made)) (n (P made)) a d (p (P made))) (r-is made) (D-is made)
+      ap₂ (λ a d. lower_half_sum (m (P made)) (n (P made)) a d (p (P made))) (r-is made) (D-is made)
 
   y2-is : to_z w64 (of_z w64 c.before.lower-step-32.result) ≡ Y2 (P made) (at made)
   unfolding Y2
   y2-is =
-      result-is c.before.lower-step-32.result c.before.lower-step-32.type-inv ∙
-      lower-half-sum-is (exchanged (pair made)) (n (P made)) (m (P made))
+      result_is c.before.lower-step-32.result c.before.lower-step-32.type-inv ∙
+      lower-half-sum_is (exchanged (pair made)) (n (P made)) (m (P made))
       (λ j h. made.right-weights.ensures.entry j (le_trans h (right-grade (P made) (admitted made))))
       (v-is c.before.before.before) c.before.lower-step-32.ensures ∙
-      ap₂ (λ a d. lowerHalfSum (n (P made)) (m (P made)) a d (rightWeights (q (P made)))) (complement-is made) ((pair made).divisor ∙ D-is made)
+      ap₂ (λ a d. lower_half_sum (n (P made)) (m (P made)) a d (right_weights (q (P made)))) (complement-is made) ((pair made).divisor ∙ D-is made)
 
   y3-is : to_z w64 (of_z w64 c.scaled-k.result) ≡ Y3 (P made) (at made)
   unfolding Y3
   y3-is =
-      result-is c.scaled-k.result c.scaled-k.type-inv ∙ c.scaled-k.ensures ∙
-      ap (λ k. scaledK (m (P made)) (n (P made)) (s made).a (s made).d k)
-      (computed-is (k-is c.before.before.before) (k-fits c.before.before.before)) ∙
-      ap₂ (λ a d. scaledK (m (P made)) (n (P made)) a d (K (m (P made)) (n (P made)) (p (P made)) (q (P made)))) (r-is made) (D-is made)
+      result_is c.scaled-k.result c.scaled-k.type-inv ∙ c.scaled-k.ensures ∙
+      ap (λ k. scaled_k (m (P made)) (n (P made)) (s made).a (s made).d k)
+      (computed_is (k-is c.before.before.before) (k-fits c.before.before.before)) ∙
+      ap₂ (λ a d. scaled_k (m (P made)) (n (P made)) a d (K (m (P made)) (n (P made)) (p (P made)) (q (P made)))) (r-is made) (D-is made)
 
   difference-is : to_z w64 (of_z w64 c.before.before.lower-step-3.result) -ℤ
       to_z w64 (of_z w64 c.before.lower-step-32.result) ≡ Y1 (P made) (at made) -ℤ Y2 (P made) (at made)
   difference-is = ap₂ (λ x y. x -ℤ y) y1-is y2-is
 
-  difference-fits : SFits w64 (Y1 (P made) (at made) -ℤ Y2 (P made) (at made))
-  difference-fits = within-fits w64 _ (lit< tt) (difference-within (P made) (admitted made) (at made) (start made).pre.1)
+  difference_fits : SFits w64 (Y1 (P made) (at made) -ℤ Y2 (P made) (at made))
+  difference_fits = within-fits w64 _ (lit< tt) (difference_within (P made) (admitted made) (at made) (start made).pre.1)
 
   abbrev slope : ℤ
   slope = Y1 (P made) (at made) -ℤ Y2 (P made) (at made) +ℤ Y3 (P made) (at made)
 
   slope-is : to_z w64 (of_z w64 (to_z w64 (of_z w64 c.before.before.lower-step-3.result) -ℤ
       to_z w64 (of_z w64 c.before.lower-step-32.result))) +ℤ to_z w64 (of_z w64 c.scaled-k.result) ≡ slope
-  slope-is = ap₂ (λ x y. x +ℤ y) (computed-is difference-is difference-fits) y3-is
+  slope-is = ap₂ (λ x y. x +ℤ y) (computed_is difference-is difference_fits) y3-is
 
   slope-small : Within (2 ^ 63 - 1) slope
   slope-small = slope-within (P made) (admitted made) (at made) (start made).pre.1
@@ -184,10 +184,10 @@ unfolding trend
 returns c =
     let y = c.before.before in
     let f = c.before.of4 in
-    result-is c.scaled.result c.scaled.type-inv ∙ c.scaled.ensures ∙
-    ap (λ z. scaled z f.result.a f.result.d) (computed-is (slope-is y) (slope-fits y)) ∙
+    result_is c.scaled.result c.scaled.type-inv ∙ c.scaled.ensures ∙
+    ap (λ z. scaled z f.result.a f.result.d) (computed_is (slope-is y) (slope-fits y)) ∙
     ap₂ (λ a d. scaled (slope y) a d) f.ensures.0 (f.ensures.1 ∙ (made y).before.before.before.before.before.before.before.of.ensures.0) ∙
-    divided (slope y) (start (made y)).args.h (start (made y)).requires.0.gapAtLeast
+    divided (slope y) (start (made y)).args.h (start (made y)).requires.0.gap_at_least
 
 -- ---- the needs
 
@@ -251,10 +251,10 @@ lower-step-3-requires-2 c κs = let e = weighed c.before in (left-grade (P e) (a
 scaled-k-requires : tie.Need-scaled-k-requires
 scaled-k-requires c κs =
     let k = c.before.before in
-    (pair (weighed k), rw (computed-is (k-is k) (k-fits k)) (K-within (P (weighed k)) (start (weighed k)).requires.0))
+    (pair (weighed k), rw (computed_is (k-is k) (k-fits k)) (K_within (P (weighed k)) (start (weighed k)).requires.0))
 
 sub-scaled : tie.Need-overflow-sub-scaled
-sub-scaled c = rw (difference-is c) (difference-fits c)
+sub-scaled c = rw (difference-is c) (difference_fits c)
 
 add-scaled : tie.Need-overflow-add-scaled
 add-scaled c = rw (slope-is c) (slope-fits c)
@@ -262,10 +262,10 @@ add-scaled c = rw (slope-is c) (slope-fits c)
 of-requires-4 : tie.Need-of-requires-4
 of-requires-4 c κs =
     let o = (made c).before.before.before.before.before.before.before.of in
-    (rw o.ensures.0 (omega (arith, (start (made c)).requires.0.gapAtLeast)), o.ensures.1)
+    (rw o.ensures.0 (omega (arith, (start (made c)).requires.0.gap_at_least)), o.ensures.1)
 
 scaled-requires : tie.Need-scaled-requires
-scaled-requires c κs = (c.of4.ensures.2, rw (computed-is (slope-is c.before) (slope-fits c.before)) (slope-small c.before))
+scaled-requires c κs = (c.of4.ensures.2, rw (computed_is (slope-is c.before) (slope-fits c.before)) (slope-small c.before))
 
 pub trend-spec : {M : Type 1} → statement M
 trend-spec =

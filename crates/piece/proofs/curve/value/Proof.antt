@@ -10,19 +10,19 @@ use lib.IntN.{ℤ, ◌+ℤ◌}
 use mir.Syntax.{w64}
 use mir.Val.{SFits, to_z, of_z}
 use Rattle.integer.specs.Within.{Within}
-use Rattle.hermite.specs.Blend.{rightWeights}
+use Rattle.hermite.specs.Blend.{right_weights}
 use Rattle.hermite.specs.Polynomial.{coefficient}
-use Rattle.rounding.specs.HalfSum.{halfSum}
-use Rattle.rounding.specs.Limits.{sizeMax}
+use Rattle.rounding.specs.HalfSum.{half_sum}
+use Rattle.rounding.specs.Limits.{size_max}
 use Rattle.rounding.specs.Piece.{Piece, piece, m, n, p, q, D}
 use Rattle.rounding.specs.Size.{Admitted}
 use Rattle.rounding.specs.Value.{value}
 use Rattle.rounding.proofs.Fits.{left-grade, right-grade, left-weight, right-weight, value-within}
-use Rattle.half_sum.specs.Machine.{steps1And2}
-use Rattle.half_sum.proofs.Parts.{half-sum-is, steps-1-and-2-fit}
+use Rattle.half_sum.specs.Machine.{steps_1_and_2}
+use Rattle.half_sum.proofs.Parts.{half-sum_is, steps_1_and_2_fit}
 use Rattle.knot_weights.specs.Machine.{Weights}
 use Rattle.knot_weights.proofs.Lists.{more-weights, listed-weights}
-use Rattle.integer.proofs.Within.{within-fits, computed-is, result-is}
+use Rattle.integer.proofs.Within.{within-fits, computed_is, result_is}
 use Rattle.scaling.specs.Machine.{Complements}
 use Rattle.scaling.specs.declared.fraction.Fraction.{Fraction}
 use Rattle.scaling.proofs.Complements.{complements, exchanged}
@@ -71,11 +71,11 @@ module _ (e : tie.After-right-weights) where
   complement-is : complement.a ≡ D (P e) - at e
   complement-is = omega (arith, pair.together, D-is, r-is)
 
-  left-small : Weights (7 * sizeMax) (left e)
+  left-small : Weights (7 * size_max) (left e)
   left-small = more-weights (lit≤ tt) (listed-weights e.before.before.weights.ensures
       (left-weight (P e) (admitted e)))
 
-  right-small : Weights (7 * sizeMax) (right e)
+  right-small : Weights (7 * size_max) (right e)
   right-small = more-weights (lit≤ tt) (listed-weights e.right-weights.ensures
       (right-weight (P e) (admitted e)))
 
@@ -84,20 +84,20 @@ module _ (c : tie.After-steps-1-and-22) where
   abbrev weighed : tie.After-right-weights
   weighed = c.before.before.before.before
 
-  u-is : to_z w64 (of_z w64 c.before.before.steps-1-and-2.result) ≡ steps1And2 (m (P weighed)) (n (P weighed)) (s weighed).a (s weighed).d
+  u-is : to_z w64 (of_z w64 c.before.before.steps-1-and-2.result) ≡ steps_1_and_2 (m (P weighed)) (n (P weighed)) (s weighed).a (s weighed).d
       (coefficient (left weighed))
-  u-is = result-is c.before.before.steps-1-and-2.result c.before.before.steps-1-and-2.type-inv ∙ c.before.before.steps-1-and-2.ensures.0
+  u-is = result_is c.before.before.steps-1-and-2.result c.before.before.steps-1-and-2.type-inv ∙ c.before.before.steps-1-and-2.ensures.0
 
   u-fits : Within (2 ^ 63 - 1) (to_z w64 (of_z w64 c.before.before.steps-1-and-2.result))
-  u-fits = rw u-is (steps-1-and-2-fit (pair weighed).prepared (n (P weighed)) (right-grade (P weighed) (admitted weighed)) (m (P weighed))
+  u-fits = rw u-is (steps_1_and_2_fit (pair weighed).prepared (n (P weighed)) (right-grade (P weighed) (admitted weighed)) (m (P weighed))
       (left-grade (P weighed) (admitted weighed)) (left-small weighed))
 
-  v-is : to_z w64 (of_z w64 c.steps-1-and-22.result) ≡ steps1And2 (n (P weighed)) (m (P weighed)) (complement weighed).a (complement weighed).d
+  v-is : to_z w64 (of_z w64 c.steps-1-and-22.result) ≡ steps_1_and_2 (n (P weighed)) (m (P weighed)) (complement weighed).a (complement weighed).d
       (coefficient (right weighed))
-  v-is = result-is c.steps-1-and-22.result c.steps-1-and-22.type-inv ∙ c.steps-1-and-22.ensures.0
+  v-is = result_is c.steps-1-and-22.result c.steps-1-and-22.type-inv ∙ c.steps-1-and-22.ensures.0
 
   v-fits : Within (2 ^ 63 - 1) (to_z w64 (of_z w64 c.steps-1-and-22.result))
-  v-fits = rw v-is (steps-1-and-2-fit (pair weighed).other (m (P weighed)) (left-grade (P weighed) (admitted weighed)) (n (P weighed))
+  v-fits = rw v-is (steps_1_and_2_fit (pair weighed).other (m (P weighed)) (left-grade (P weighed) (admitted weighed)) (n (P weighed))
       (right-grade (P weighed) (admitted weighed)) (right-small weighed))
 
 -- the two half-sums
@@ -105,30 +105,30 @@ module _ (c : tie.After-scaled-times2) where
   abbrev made : tie.After-right-weights
   made = weighed c.before.before
 
-  left_is : c.before.scaled-times.result ≡ halfSum (m (P made)) (n (P made)) (at made) (D (P made)) (p (P made))
+  left_is : c.before.scaled-times.result ≡ half_sum (m (P made)) (n (P made)) (at made) (D (P made)) (p (P made))
   left_is =
-      half-sum-is (pair made) (m (P made)) (n (P made))
+      half-sum_is (pair made) (m (P made)) (n (P made))
       (λ j h. made.before.before.weights.ensures.entry j (le_trans h (left-grade (P made) (admitted made))))
       (u-is c.before.before) c.before.scaled-times.ensures ∙
-      ap₂ (λ a d. halfSum (m (P made)) (n (P made)) a d (p (P made))) (r-is made) (D-is made)
+      ap₂ (λ a d. half_sum (m (P made)) (n (P made)) a d (p (P made))) (r-is made) (D-is made)
 
-  right_is : c.scaled-times2.result ≡ halfSum (n (P made)) (m (P made)) (D (P made) - at made) (D (P made)) (rightWeights (q (P made)))
+  right_is : c.scaled-times2.result ≡ half_sum (n (P made)) (m (P made)) (D (P made) - at made) (D (P made)) (right_weights (q (P made)))
   right_is =
-      half-sum-is (exchanged (pair made)) (n (P made)) (m (P made))
+      half-sum_is (exchanged (pair made)) (n (P made)) (m (P made))
       (λ j h. made.right-weights.ensures.entry j (le_trans h (right-grade (P made) (admitted made))))
       (v-is c.before.before) c.scaled-times2.ensures ∙
-      ap₂ (λ a d. halfSum (n (P made)) (m (P made)) a d (rightWeights (q (P made)))) (complement-is made) ((pair made).divisor ∙ D-is made)
+      ap₂ (λ a d. half_sum (n (P made)) (m (P made)) a d (right_weights (q (P made)))) (complement-is made) ((pair made).divisor ∙ D-is made)
 
   sum_is : to_z w64 (of_z w64 c.before.scaled-times.result) +ℤ to_z w64 (of_z w64 c.scaled-times2.result) ≡ value (P made) (at made)
   unfolding value
-  sum_is = ap₂ (λ x y. x +ℤ y) (result-is c.before.scaled-times.result c.before.scaled-times.type-inv ∙ left_is)
-      (result-is c.scaled-times2.result c.scaled-times2.type-inv ∙ right_is)
+  sum_is = ap₂ (λ x y. x +ℤ y) (result_is c.before.scaled-times.result c.before.scaled-times.type-inv ∙ left_is)
+      (result_is c.scaled-times2.result c.scaled-times2.type-inv ∙ right_is)
 
   sum_fits : SFits w64 (value (P made) (at made))
   sum_fits = within-fits w64 _ (lit< tt) (value-within (P made) (admitted made) (at made) (start made).pre.1)
 
 returns : tie.Need-returns
-returns c = computed-is (sum_is c) (sum_fits c)
+returns c = computed_is (sum_is c) (sum_fits c)
 
 -- ---- the needs
 

@@ -10,14 +10,14 @@ use mir.Val.{SFits, to_z, of_z}
 use mir.Facts.{to_z-of_z, to_z_pos}
 use Rattle.hermite.specs.HalfSum.{g}
 use Rattle.hermite.specs.Polynomial.{coefficient}
-use Rattle.hermite.specs.Slope.{sumK}
+use Rattle.hermite.specs.Slope.{sum_k}
 use Rattle.hermite.proofs.RunningSums.{rounds-are-sums}
-use Rattle.hermite.proofs.SumK.{sumK-by-g}
-use Rattle.rounding.proofs.Bounds.{sumK-within}
+use Rattle.hermite.proofs.SumK.{sum_k_by_g}
+use Rattle.rounding.proofs.Bounds.{sum_k-within}
 use Rattle.knot_weights.specs.Machine.{Lists}
 use Rattle.knot_weights.proofs.Lists.{more-weights}
 use Rattle.half_sum.proofs.RunningSums.{lists-sums, weights-room}
-use Rattle.integer.proofs.Within.{within-fits, computed-is}
+use Rattle.integer.proofs.Within.{within-fits, computed_is}
 use Rattle.piece.proofs.slope.sum_k.Statement.{statement}
 use Rattle.piece.proofs.slope.sum_k.Tie as tie
 
@@ -36,14 +36,14 @@ module _ (c : tie.After-result) where
       (omega arith) b.pre.0))
 
   product_is : to_z w64 (b.args.n + 1) *ℤ to_z w64 (of_z w64 (coefficient c.before.rounds.new.1.0 b.args.m)) ≡
-      sumK b.args.m b.args.n (coefficient b.args.w.now)
+      sum_k b.args.m b.args.n (coefficient b.args.w.now)
   product_is =
-      ap₂ (λ x y. x *ℤ y) (to_z_pos w64 {n = b.args.n + 1} (omega arith)) (computed-is (sums.entry b.args.m b.pre.0) sum_fits) ∙
-      sym (sumK-by-g b.args.m b.args.n (coefficient b.args.w.now) b.pre.0 b.pre.1)
+      ap₂ (λ x y. x *ℤ y) (to_z_pos w64 {n = b.args.n + 1} (omega arith)) (computed_is (sums.entry b.args.m b.pre.0) sum_fits) ∙
+      sym (sum_k_by_g b.args.m b.args.n (coefficient b.args.w.now) b.pre.0 b.pre.1)
 
-  product-fits : SFits w64 (sumK b.args.m b.args.n (coefficient b.args.w.now))
+  product-fits : SFits w64 (sum_k b.args.m b.args.n (coefficient b.args.w.now))
   product-fits =
-      within-fits w64 _ (lit< tt) (sumK-within b.args.m b.args.n (coefficient b.args.w.now) b.pre.0 b.pre.1
+      within-fits w64 _ (lit< tt) (sum_k-within b.args.m b.args.n (coefficient b.args.w.now) b.pre.0 b.pre.1
       (λ j h. b.pre.2.small j (omega arith)))
 
 returns : tie.Need-returns

@@ -3,8 +3,8 @@ use borrow.Author.Rules.{rules}
 use mathlib.Core.Path.{sym, ◌∙◌, ap}
 use mathlib.Core.Bool.{true≢false}
 use native.Mathlib.Omega.{arith}
-use Rattle.scans.proofs.SizeRule.{kept-sized}
-use Rattle.knot.specs.Machine.{spotIn}
+use Rattle.scans.proofs.SizeRule.{kept_sized}
+use Rattle.knot.specs.Machine.{spot_in}
 use Rattle.piece_vectors.proofs.admit.admitted.Statement.{statement}
 use Rattle.piece_vectors.proofs.admit.admitted.Tie as tie
 
@@ -59,13 +59,13 @@ enum-told-4 c = search rules
 returns-10 : tie.Need-returns-10
 returns-10 c = λ e. (
   record {
-    gapAtLeast = omega arith;
-    gapAtMost = omega arith;
-    leftGrade = record { at_least = omega arith; at_most = omega arith };
-    rightGrade = record { at_least = omega arith; at_most = omega arith };
-    leftSize = let o = c.before.before.before in
-        kept-sized 0 _ _ (sym o.before.before.list-reason.ensures ∙ ap spotIn o.enum-told2.given.1);
-    rightSize = kept-sized 1 _ _ (sym c.before.before.list-reason2.ensures ∙ ap spotIn c.enum-told4.given.1);
+    gap_at_least = omega arith;
+    gap_at_most = omega arith;
+    left_grade = record { at_least = omega arith; at_most = omega arith };
+    right_grade = record { at_least = omega arith; at_most = omega arith };
+    left_size = let o = c.before.before.before in
+        kept_sized 0 _ _ (sym o.before.before.list-reason.ensures ∙ ap spot_in o.enum-told2.given.1);
+    right_size = kept_sized 1 _ _ (sym c.before.before.list-reason2.ensures ∙ ap spot_in c.enum-told4.given.1);
   },
   omega arith,
 )

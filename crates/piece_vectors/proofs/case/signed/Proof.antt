@@ -6,7 +6,7 @@ use lib.Dec.{lit<}
 use lib.IntN.{pos, ◌-ℤ◌}
 use mir.Syntax.{w32}
 use mir.Facts.{to_z_pos}
-use Rattle.integer.proofs.Within.{within-natural, within_more, within-opposite, within-fits}
+use Rattle.integer.proofs.Within.{within-natural, within_more, within_opposite, within-fits}
 use Rattle.piece_vectors.proofs.case.signed.Statement.{statement}
 use Rattle.piece_vectors.proofs.case.signed.Tie as tie
 
@@ -20,7 +20,7 @@ sub-result : tie.Need-overflow-sub-result
 sub-result c =
     let x = c.before.args.word - 2147483648 in
     rw (to_z_pos w32 {n = x} (omega arith))
-    (within-fits w32 (pos 0 -ℤ pos x) (lit< tt) (within-opposite (pos x) (within_more {B = 2 ^ 31 - 1} (omega arith) (within-natural x))))
+    (within-fits w32 (pos 0 -ℤ pos x) (lit< tt) (within_opposite (pos x) (within_more {B = 2 ^ 31 - 1} (omega arith) (within-natural x))))
 
 returns : tie.Need-returns
 returns c = search rules

@@ -14,39 +14,39 @@ use Rattle.knot.proofs.Lists.{length-scans}
 use Rattle.knot.proofs.Numbers.{numbers, passed, failed}
 use Rattle.block.specs.Bytes.{words}
 use Rattle.block.specs.Fields.{reading}
-use Rattle.block.specs.Reading.{blockCauses, list_of}
-use Rattle.block.specs.View.{everyNth, unlessRefused, readingsOf, viewCauses, view_of}
-use Rattle.block.proofs.View.{reader-first, knot-after-reader, stride-after-knot, view-free}
+use Rattle.block.specs.Reading.{block_causes, list_of}
+use Rattle.block.specs.View.{every_nth, unless_refused, readings_of, view_causes, view_of}
+use Rattle.block.proofs.View.{reader_first, knot-after_reader, stride-after-knot, view_free}
 use Rattle.readings.specs.Machine.{Selects, Spans, strided}
 use Rattle.readings.specs.declared.finding.Span.{Span}
 use Rattle.readings.specs.declared.finding.Selection.{Selection}
-use Rattle.readings.proofs.Strided.{strided-every}
+use Rattle.readings.proofs.Strided.{strided_every}
 use Rattle.readings.proofs.finding.select.Statement.{statement}
 use Rattle.readings.proofs.finding.select.Tie as tie
 
 module _ (bs : List ℕ) (k n : ℕ) where
   -- a cause: nothing is shown
-  refuses : {r : Selection} {m : ℕ} → (r.refusal ≡ m) × (r.count ≡ 0) → Numbers m (some m) → first (viewCauses bs k n) ≡ some m → Selects r bs k n
+  refuses : {r : Selection} {m : ℕ} → (r.refusal ≡ m) × (r.count ≡ 0) → Numbers m (some m) → first (view_causes bs k n) ≡ some m → Selects r bs k n
   unfolding view_of
   refuses {r} {m} e numbered found = record {
     number = rw (e.0, found) numbered;
-    readings = ap (strided (words bs) r.start n) e.1 ∙ ap (λ cause. unlessRefused cause (everyNth n (readingsOf bs k))) (sym found);
+    readings = ap (strided (words bs) r.start n) e.1 ∙ ap (λ cause. unless_refused cause (every_nth n (readings_of bs k))) (sym found);
   }
 
   -- none: every n-th of the readings at this place
-  module _ (p : Span) (stands : Spans p (words bs) (readingsOf bs k)) where
+  module _ (p : Span) (stands : Spans p (words bs) (readings_of bs k)) where
     there : p.count ≤ length (drop p.start (words bs))
     there =
         let l = drop p.start (words bs) in
         let all = length-map (take p.count l) reading in
         omega (arith, length-take p.count l, all, ap length stands.are, stands.count)
 
-    finds : 0 < n → first (viewCauses bs k n) ≡ none → Selects (record { start = p.start; count = (p.count + (n - 1)) / n; refusal = 0 }) bs k n
+    finds : 0 < n → first (view_causes bs k n) ≡ none → Selects (record { start = p.start; count = (p.count + (n - 1)) / n; refusal = 0 }) bs k n
     unfolding view_of
     finds h quiet = record {
       number = record { known = omega arith; is = sym quiet };
-      readings = strided-every (words bs) p.start n p.count h there ∙ ap (everyNth n) stands.are ∙
-          ap (λ cause. unlessRefused cause (everyNth n (readingsOf bs k))) (sym quiet);
+      readings = strided_every (words bs) p.start n p.count h there ∙ ap (every_nth n) stands.are ∙
+          ap (λ cause. unless_refused cause (every_nth n (readings_of bs k))) (sym quiet);
     }
 
 -- the block is accepted, and its knots are counted
@@ -54,7 +54,7 @@ module _ (c : tie.Else1) where
   abbrev bytes : List ℕ
   bytes = c.before.before.before.args.block.now
 
-  quiet : first (blockCauses bytes) ≡ none
+  quiet : first (block_causes bytes) ≡ none
   quiet = passed c.before.read.ensures.0.number c.if1.false
 
   knots : length (list_of bytes) ≡ c.before.read.result.count
@@ -69,7 +69,7 @@ returns c =
     let a = r.before.before.args in
     let n = r.read.ensures.0.number in
     let e = failed r.read.result.refusal n c.before.if1.true in
-    refuses a.block.now a.k a.n c.nothing.ensures (rw e at n) (reader-first a.block.now a.k a.n e)
+    refuses a.block.now a.k a.n c.nothing.ensures (rw e at n) (reader_first a.block.now a.k a.n e)
 
 returns-2 : tie.Need-returns-2
 returns-2 c =
@@ -77,7 +77,7 @@ returns-2 c =
     let e = t.before in
     let a = e.before.before.before.args in
     refuses a.block.now a.k a.n (c.nothing2.ensures.0 ∙ c.before.number.ensures, c.nothing2.ensures.1) (numbers Refusals.Index)
-    (knot-after-reader a.block.now a.k a.n (quiet e) (omega (arith, knots e, t.if2.true)))
+    (knot-after_reader a.block.now a.k a.n (quiet e) (omega (arith, knots e, t.if2.true)))
 
 returns-3 : tie.Need-returns-3
 returns-3 c =
@@ -96,7 +96,7 @@ returns-4 c =
     let e = c.before in
     let a = e.before.before.before.before.before.args in
     finds a.block.now a.k a.n c.Span-of.result c.Span-of.ensures (omega (arith, e.if3.false))
-    (view-free a.block.now a.k a.n (quiet e.before.before) (known e) e.if3.false)
+    (view_free a.block.now a.k a.n (quiet e.before.before) (known e) e.if3.false)
 
 -- ---- the needs
 

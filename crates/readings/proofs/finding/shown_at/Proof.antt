@@ -7,7 +7,7 @@ use native.Mathlib.Omega.{arith}
 use Rattle.block.specs.Bytes.{words}
 use Rattle.block.specs.Fields.{reading}
 use mathlib.Core.Option.{some}
-use Rattle.readings.proofs.Strided.{strided-at, strided-past}
+use Rattle.readings.proofs.Strided.{strided_at, strided-past}
 use Rattle.readings.proofs.finding.shown_at.Statement.{statement}
 use Rattle.readings.proofs.finding.shown_at.Tie as tie
 
@@ -21,7 +21,7 @@ returns-2 c =
     let l = c.before in
     let a = l.before.before.before.args in
     ap some (c.reading.ensures ∙ ap reading l.load.ensures.0) ∙
-    sym (strided-at (words a.block.now) a.start a.stride a.count a.i (omega (arith, l.before.if1.false)))
+    sym (strided_at (words a.block.now) a.start a.stride a.count a.i (omega (arith, l.before.if1.false)))
 
 -- ---- the needs
 

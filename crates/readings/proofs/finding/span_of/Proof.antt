@@ -4,21 +4,21 @@ use mathlib.Core.List.{List, [], ◌∷◌, map}
 use mathlib.Core.Option.{Option, none, some}
 use mathlib.Core.Path.{◌≡◌, refl, sym, ◌∙◌, ap, ap₂, subst, subst₂}
 use Prim.Native.Nat.{ℕ, suc, ◌+◌, ◌-◌, ◌*◌, ◌/◌, ◌^◌, ◌≤◌, ◌<◌}
-use native.Mathlib.Nat.{mod-lt}
+use native.Mathlib.Nat.{mod_lt}
 use native.Mathlib.Omega.{arith}
 use lib.ListN.{length, take, drop, get_or, length-map}
 use lib.Seq.{drop-cons, drop-drop}
-use Rattle.rounding.specs.Limits.{knotsMax, gradeMax}
+use Rattle.rounding.specs.Limits.{knots_max, grade_max}
 use Rattle.scans.specs.Scan.{Scan}
 use Rattle.scans.proofs.Causes.{Quiet, silent}
-use Rattle.block.specs.Fields.{knotCount, edition, grade, reading}
+use Rattle.block.specs.Fields.{knot_count, edition, grade, reading}
 use Rattle.block.specs.Bytes.{words}
-use Rattle.block.specs.Reading.{readingWords, afterReadings, readingCauses, scanFrom, behind, knotsCauses, list_of}
-use Rattle.block.specs.View.{readingsFrom, readingsOf}
+use Rattle.block.specs.Reading.{reading_words, after_readings, reading_causes, scan_from, behind, knots_causes, list_of}
+use Rattle.block.specs.View.{readings_from, readings_of}
 use Rattle.block.proofs.Reading.{Taken, taken, Accepted, accepted}
 use Rattle.block.proofs.RoundTrips.{knots-count}
 use Rattle.block.proofs.View.{readings-first, knot-there}
-use Rattle.block.proofs.Written.{knotWordsMax}
+use Rattle.block.proofs.Written.{knot_words_max}
 use Rattle.word_faults.specs.Machine.{Counts}
 use Rattle.word_faults.specs.declared.readings.Counted.{Counted}
 use Rattle.readings.specs.Machine.{Spans}
@@ -28,12 +28,12 @@ use Rattle.readings.proofs.finding.span_of.Tie as tie
 -- j knots are passed, in a block of n knots, and the word of the next, knot j, is i: no fault is ahead, and the readings looked for are those from here
 record Come (e : ℕ) (ws : List ℕ) (n k j i : ℕ) : Type 0 where
   within : j ≤ k
-  place : i ≤ knotWordsMax * j + 1
+  place : i ≤ knot_words_max * j + 1
   last : Option Scan
-  quiet : Quiet (knotsCauses e (length ws - 1) j (n - j) last (drop i ws))
-  readings : get_or (readingsFrom e n (drop 1 ws)) k [] ≡ get_or (readingsFrom e (n - j) (drop i ws)) (k - j) []
+  quiet : Quiet (knots_causes e (length ws - 1) j (n - j) last (drop i ws))
+  readings : get_or (readings_from e n (drop 1 ws)) k [] ≡ get_or (readings_from e (n - j) (drop i ws)) (k - j) []
 
-module _ (e : ℕ) (ws : List ℕ) (n k j i : ℕ) (come : Come e ws n k j i) (h : k < n) (most : n ≤ knotsMax) (m : ℕ) (m-is : m ≡ grade (get_or ws i 0)) where
+module _ (e : ℕ) (ws : List ℕ) (n k j i : ℕ) (come : Come e ws n k j i) (h : k < n) (most : n ≤ knots_max) (m : ℕ) (m_is : m ≡ grade (get_or ws i 0)) where
   -- the word of the knot, the knots after it, and the words after its coefficients
   abbrev w : ℕ
   w = get_or ws i 0
@@ -47,37 +47,37 @@ module _ (e : ℕ) (ws : List ℕ) (n k j i : ℕ) (come : Come e ws n k j i) (h
   one_left : n - j ≡ suc more
   one_left = omega (arith, come.within)
 
-  ahead : Quiet (knotsCauses e (length ws - 1) j (suc more) come.last (drop i ws))
-  ahead = subst (λ a. Quiet (knotsCauses e (length ws - 1) j a come.last (drop i ws))) one_left come.quiet
+  ahead : Quiet (knots_causes e (length ws - 1) j (suc more) come.last (drop i ws))
+  ahead = subst (λ a. Quiet (knots_causes e (length ws - 1) j a come.last (drop i ws))) one_left come.quiet
 
   here : drop i ws ≡ w ∷ drop (suc i) ws
   here = drop-cons ws i 0 (knot-there e (length ws - 1) j more come.last ws i ahead)
 
   knot : Taken e (length ws - 1) j more come.last w (drop (suc i) ws)
   knot = taken e (length ws - 1) j more come.last w (drop (suc i) ws)
-      (subst (λ l. Quiet (knotsCauses e (length ws - 1) j (suc more) come.last l)) here ahead)
+      (subst (λ l. Quiet (knots_causes e (length ws - 1) j (suc more) come.last l)) here ahead)
 
   behind-it : behind w (drop (suc i) ws) ≡ rest
   behind-it = let there : suc i + (grade w + 1) ≡ i + m + 2 = omega arith in drop-drop (grade w + 1) (suc i) ws ∙ ap (λ a. drop a ws) there
 
-  readings-here : readingsFrom e (n - j) (drop i ws) ≡ map reading (readingWords e rest) ∷ readingsFrom e more (afterReadings e rest)
+  readings-here : readings_from e (n - j) (drop i ws) ≡ map reading (reading_words e rest) ∷ readings_from e more (after_readings e rest)
   readings-here =
-      ap₂ (λ m l. readingsFrom e m l) one_left here ∙
-      ap (λ l. map reading (readingWords e l) ∷ readingsFrom e more (afterReadings e l)) behind-it
+      ap₂ (λ m l. readings_from e m l) one_left here ∙
+      ap (λ l. map reading (reading_words e l) ∷ readings_from e more (after_readings e l)) behind-it
 
-  low : m ≤ gradeMax
-  low = omega (arith, m-is, mod-lt (w / 2 ^ 16) {m = 2 ^ 3} (omega arith))
+  low : m ≤ grade_max
+  low = omega (arith, m_is, mod_lt (w / 2 ^ 16) {m = 2 ^ 3} (omega arith))
 
-  near : i + m + 2 ≤ knotWordsMax * knotsMax
+  near : i + m + 2 ≤ knot_words_max * knots_max
   near = omega (arith, come.place, come.within, low)
 
   -- so many readings are counted behind it
-  module _ (r : Counted) (counts : Counts r (readingWords e rest)) where
-    counted : r.count ≡ length (readingWords e rest)
-    counted = counts.count (silent (readingCauses 0 (readingWords e rest))
-        (subst (λ l. Quiet (readingCauses 0 (readingWords e l))) behind-it knot.readings))
+  module _ (r : Counted) (counts : Counts r (reading_words e rest)) where
+    counted : r.count ≡ length (reading_words e rest)
+    counted = counts.count (silent (reading_causes 0 (reading_words e rest))
+        (subst (λ l. Quiet (reading_causes 0 (reading_words e l))) behind-it knot.readings))
 
-    past-it : afterReadings e rest ≡ drop (i + m + 2 + r.count) ws
+    past-it : after_readings e rest ≡ drop (i + m + 2 + r.count) ws
     past-it = ap (λ a. drop a rest) (sym counted) ∙ drop-drop r.count (i + m + 2) ws
 
     -- it is not the one looked for
@@ -88,47 +88,47 @@ module _ (e : ℕ) (ws : List ℕ) (n k j i : ℕ) (come : Come e ws n k j i) (h
         record {
           within = omega (arith, come.within);
           place = omega (arith, come.place, low, counts.few);
-          last = some (scanFrom w (drop (suc i) ws));
-          quiet = subst₂ (λ a l. Quiet (knotsCauses e (length ws - 1) a more (some (scanFrom w (drop (suc i) ws))) l)) next
-              (ap (afterReadings e) behind-it ∙ past-it) knot.later;
-          readings = come.readings ∙ ap₂ (λ l a. get_or l a []) readings-here later ∙ ap (λ l. get_or (readingsFrom e more l) (k - (j + 1)) []) past-it;
+          last = some (scan_from w (drop (suc i) ws));
+          quiet = subst₂ (λ a l. Quiet (knots_causes e (length ws - 1) a more (some (scan_from w (drop (suc i) ws))) l)) next
+              (ap (after_readings e) behind-it ∙ past-it) knot.later;
+          readings = come.readings ∙ ap₂ (λ l a. get_or l a []) readings-here later ∙ ap (λ l. get_or (readings_from e more l) (k - (j + 1)) []) past-it;
         }
 
     -- it is
-    found : j ≡ k → Spans (record { start = i + m + 2; count = r.count }) ws (get_or (readingsFrom e n (drop 1 ws)) k [])
+    found : j ≡ k → Spans (record { start = i + m + 2; count = r.count }) ws (get_or (readings_from e n (drop 1 ws)) k [])
     found d =
         let first_one : k - j ≡ 0 = omega arith in
-        let these : get_or (readingsFrom e n (drop 1 ws)) k [] ≡ map reading (readingWords e rest) =
+        let these : get_or (readings_from e n (drop 1 ws)) k [] ≡ map reading (reading_words e rest) =
         come.readings ∙ ap₂ (λ l a. get_or l a []) readings-here first_one in
         record {
           near = omega (arith, near);
           few = counts.few;
           are = ap (map reading) (ap (λ a. take a rest) counted ∙ readings-first e rest) ∙ sym these;
-          count = ap length these ∙ length-map (readingWords e rest) reading ∙ sym counted;
+          count = ap length these ∙ length-map (reading_words e rest) reading ∙ sym counted;
         }
 
 -- the block is accepted, and has a knot k
 record Whole (bs : List ℕ) (k : ℕ) : Type 0 where
-  there : k < knotCount (get_or (words bs) 0 0)
-  most : knotCount (get_or (words bs) 0 0) ≤ knotsMax
-  quiet : let w = get_or (words bs) 0 0 in Quiet (knotsCauses (edition w) (length (words bs) - 1) 0 (knotCount w) none (drop 1 (words bs)))
-  readings : let w = get_or (words bs) 0 0 in readingsOf bs k ≡ get_or (readingsFrom (edition w) (knotCount w) (drop 1 (words bs))) k []
+  there : k < knot_count (get_or (words bs) 0 0)
+  most : knot_count (get_or (words bs) 0 0) ≤ knots_max
+  quiet : let w = get_or (words bs) 0 0 in Quiet (knots_causes (edition w) (length (words bs) - 1) 0 (knot_count w) none (drop 1 (words bs)))
+  readings : let w = get_or (words bs) 0 0 in readings_of bs k ≡ get_or (readings_from (edition w) (knot_count w) (drop 1 (words bs))) k []
 
 the_block : (bs : List ℕ) (k : ℕ) → Accepted bs → k < length (list_of bs) → Whole bs k
-unfolding list_of readingsOf
+unfolding list_of readings_of
 the_block bs k a h =
-    let count : length (list_of bs) ≡ knotCount a.head =
-    rw a.wordsAre (knots-count (edition a.head) (length a.others) 0 (knotCount a.head) none a.others a.knots) in
+    let count : length (list_of bs) ≡ knot_count a.head =
+    rw a.words_are (knots-count (edition a.head) (length a.others) 0 (knot_count a.head) none a.others a.knots) in
     let before : length a.others ≡ length (a.head ∷ a.others) - 1 = omega arith in
     record {
-      there = rw a.wordsAre (omega (arith, count));
-      most = rw a.wordsAre a.header.count;
-      quiet = rw a.wordsAre (subst (λ b. Quiet (knotsCauses (edition a.head) b 0 (knotCount a.head) none a.others)) before a.knots);
-      readings = rw a.wordsAre refl;
+      there = rw a.words_are (omega (arith, count));
+      most = rw a.words_are a.header.count;
+      quiet = rw a.words_are (subst (λ b. Quiet (knots_causes (edition a.head) b 0 (knot_count a.head) none a.others)) before a.knots);
+      readings = rw a.words_are refl;
     }
 
 abbrev invariant-loop : tie.invariant-loop
-invariant-loop block k edition j₀ i₀ j i = Come edition (words block) (knotCount (get_or (words block) 0 0)) k j i
+invariant-loop block k edition j₀ i₀ j i = Come edition (words block) (knot_count (get_or (words block) 0 0)) k j i
 
 abbrev decreases-loop : tie.decreases-loop
 decreases-loop block k edition j₀ i₀ j i = k - j
@@ -140,7 +140,7 @@ the-block-of c = let b = c.before.before.before in the_block b.args.block.now b.
 edition-is : (c : tie.After-edition invariant-loop decreases-loop) → edition (get_or (words c.before.before.before.args.block.now) 0 0) ≡ c.edition.result
 edition-is c = sym (c.edition.ensures ∙ ap edition c.before.load.ensures.0)
 
-nothing_yet : (e : ℕ) (ws : List ℕ) (n k : ℕ) → Quiet (knotsCauses e (length ws - 1) 0 n none (drop 1 ws)) → Come e ws n k 0 1
+nothing_yet : (e : ℕ) (ws : List ℕ) (n k : ℕ) → Quiet (knots_causes e (length ws - 1) 0 n none (drop 1 ws)) → Come e ws n k 0 1
 nothing_yet e ws n k q =
     let all : n ≡ n - 0 = omega arith in
     let same : k ≡ k - 0 = omega arith in
@@ -148,17 +148,17 @@ nothing_yet e ws n k q =
       within = omega arith;
       place = omega arith;
       last = none;
-      quiet = subst (λ m. Quiet (knotsCauses e (length ws - 1) 0 m none (drop 1 ws))) all q;
-      readings = ap₂ (λ m a. get_or (readingsFrom e m (drop 1 ws)) a []) all same;
+      quiet = subst (λ m. Quiet (knots_causes e (length ws - 1) 0 m none (drop 1 ws))) all q;
+      readings = ap₂ (λ m a. get_or (readings_from e m (drop 1 ws)) a []) all same;
     }
 
 loop-holds : tie.Need-loop-init invariant-loop decreases-loop
 loop-holds c =
     let a = c.before.before.before.args in
     let ws = words a.block.now in
-    let n = knotCount (get_or ws 0 0) in
+    let n = knot_count (get_or ws 0 0) in
     nothing_yet c.edition.result ws n a.k
-    (subst (λ e. Quiet (knotsCauses e (length ws - 1) 0 n none (drop 1 ws))) (edition-is c) (the-block-of c).quiet)
+    (subst (λ e. Quiet (knots_causes e (length ws - 1) 0 n none (drop 1 ws))) (edition-is c) (the-block-of c).quiet)
 
 -- a knot is due
 module _ (c : tie.After-grade invariant-loop decreases-loop) where
@@ -172,12 +172,12 @@ module _ (c : tie.After-grade invariant-loop decreases-loop) where
   the-words = words begin.before.before.before.args.block.now
 
   abbrev count : ℕ
-  count = knotCount (get_or the-words 0 0)
+  count = knot_count (get_or the-words 0 0)
 
   grade-is : c.grade.result ≡ grade (get_or the-words at.loop.i 0)
   grade-is = c.grade.ensures ∙ ap grade c.before.load2.ensures.0
 
-  start-near : at.loop.i + c.grade.result + 2 ≤ knotWordsMax * knotsMax
+  start-near : at.loop.i + c.grade.result + 2 ≤ knot_words_max * knots_max
   start-near = near begin.edition.result the-words count begin.before.before.before.args.k at.loop.j at.loop.i at.loop.inv
       (the-block-of begin).there (the-block-of begin).most c.grade.result grade-is
 
@@ -188,7 +188,7 @@ returns c =
     let b = begin g in
     let a = b.before.before.before.args in
     subst (Spans _ (the-words g))
-    (ap (λ e. get_or (readingsFrom e (count g) (drop 1 (the-words g))) a.k []) (sym (edition-is b)) ∙ sym (the-block-of b).readings)
+    (ap (λ e. get_or (readings_from e (count g) (drop 1 (the-words g))) a.k []) (sym (edition-is b)) ∙ sym (the-block-of b).readings)
     (found b.edition.result (the-words g) (count g) a.k (at g).loop.j (at g).loop.i (at g).loop.invariant (the-block-of b).there (the-block-of b).most
     g.grade.result (grade-is g) r.count-readings.result r.count-readings.ensures c.if1.true)
 

@@ -36,12 +36,12 @@ use denote.Triple.Spec.{Meets, triple_of}
 use denote.Triple.Table.{entered, cited}
 use denote.Triple.Walked.{says, Stays, walk_of, Walks, ends_at, walked, walk_Meets}
 use Rattle.knot.specs.Machine.{Numbers}
-use Rattle.readings.specs.Machine.{Sees, Views, readingShown, shows}
+use Rattle.readings.specs.Machine.{Sees, Views, reading_shown, shows}
 use Rattle.readings.specs.declared.finding.Shown.{Shown}
 use Rattle.readings.specs.declared.view.Seen.{Seen}
 use Rattle.readings.specs.declared.view.View.{View}
-use Rattle.readings.proofs.Types.{D, L, OwnV, Bytes, val, OwnS, slice-stays, number-stays, slice-goes, number-goes}
-use Rattle.readings.proofs.Types.{view-typed, view-twice, slice-typed, slice-twice}
+use Rattle.readings.proofs.Types.{D, L, OwnV, Bytes, val, OwnS, slice_stays, number_stays, slice_goes, number_goes}
+use Rattle.readings.proofs.Types.{view_typed, view_twice, slice_typed, slice_twice}
 use Rattle.readings.proofs.Walks.{number, asks, copied, freed, calls}
 use Rattle.readings.specs.contracts.finding.Shown as S
 use Rattle.readings.proofs.finding.Shown.TheLaws as S'
@@ -70,7 +70,7 @@ use Rattle.readings.specs.contracts.view.look.Key.{name as #look}
 use Rattle.readings.proofs.view.look.Statement as stated
 
 abbrev stayed : Stays (looks.ended).signature.params (looks.ended).kept
-stayed = (slice-stays, (number-stays, (number-stays, (number-stays, tt))))
+stayed = (slice_stays, (number_stays, (number_stays, (number_stays, tt))))
 
 same_number : {m n : ℕ} {cause : Option ℕ} → m ≡ n → Numbers n cause → Numbers m cause
 same_number {m} {n} {cause} e = subst (λ (x : ℕ). Numbers x cause) (sym e)
@@ -80,7 +80,7 @@ seen a b t = record { refusal = a; count = b; shown = t }
 
 -- what the view of the bytes answers is what is to be seen of them
 sees : (bs : List ℕ) (k n i : ℕ) (d : View) (a b : ℕ) (t : Shown) → Views d bs k n → a ≡ d.refusal → b ≡ length (shows d)
-    → readingShown t ≡ get_elem? (shows d) i → Sees (seen a b t) bs k n i
+    → reading_shown t ≡ get_elem? (shows d) i → Sees (seen a b t) bs k n i
 sees bs k n i d a b t views refused counted read = record {
   number = same_number refused views.number;
   count = counted ∙ ap length views.readings;
@@ -143,7 +143,7 @@ module _ {M : Type 1} {𝓤 : Ura M} (𝓛 : Logic 𝓤) (mem : Memory → SProp
     goes_of =
         qed 𝓛 ((‵ (flft κ q) ⊛ ‵ ftrue) ∷ ‵ (owns (Bytes (κ, tt) ∷ u32 ∷ u32 ∷ u32 ∷ []) (s, (k, (n, (i, tt)))) vals) ∷ []) ∵
         move ! (1 ∷ []) $ fsplit ! $ move ! (1 ∷ []) $ drop ! $
-        use1 𝓛 (‵ (OwnS (κ, tt) s) ⊛ ‵ (OwnS (κ, tt) s)) (slice-twice 𝓛 (κ, tt) s) $ split ! $
+        use1 𝓛 (‵ (OwnS (κ, tt) s) ⊛ ‵ (OwnS (κ, tt) s)) (slice_twice 𝓛 (κ, tt) s) $ split ! $
         nothing ! $ number ! n n-fits $ fjoin ! $ number ! k k-fits $ fjoin ! $ move ! (1 ∷ 0 ∷ []) $ fjoin ! $
         -- [what the three own; what s owns; the token]
         move ! (2 ∷ 0 ∷ []) $ asks ! $ done !
@@ -153,7 +153,7 @@ module _ {M : Type 1} {𝓤 : Ura M} (𝓛 : Logic 𝓤) (mem : Memory → SProp
         (sep 𝓤 ((Refusal 𝓛 mem run).pre (to-refusal d)) (sem 𝓛 (OwnV (κ, tt) d)))
     goes_on d =
         qed 𝓛 (‵ (OwnV (κ, tt) d) ∷ (‵ (flft κ q) ⊛ ‵ ftrue) ∷ []) ∵
-        use1 𝓛 (‵ (OwnV (κ, tt) d) ⊛ ‵ (OwnV (κ, tt) d)) (view-twice 𝓛 (κ, tt) d) $ split ! $
+        use1 𝓛 (‵ (OwnV (κ, tt) d) ⊛ ‵ (OwnV (κ, tt) d)) (view_twice 𝓛 (κ, tt) d) $ split ! $
         nothing ! $ move ! (1 ∷ 0 ∷ []) $ fjoin ! $ move ! (2 ∷ 0 ∷ []) $ asks ! $ done !
 
     goes_at : (d : View) → ent 𝓤 (⋆ 𝓛 (‵ (OwnV (κ, tt) d) ∷ (‵ (flft κ q) ⊛ ‵ ftrue) ∷ [])) ((At 𝓛 mem run).pre (to_at d))
@@ -191,22 +191,22 @@ module _ {M : Type 1} {𝓤 : Ura M} (𝓛 : Logic 𝓤) (mem : Memory → SProp
           (LL.val (D (κ, tt)) (L (κ, tt))) (LL.tells (D (κ, tt)) (L (κ, tt))) !
           (and_then ! (copied ! 22 refl) (and_then ! (copied ! 20 refl) (and_then ! (copied ! 18 refl) (no_more !)))) (λ d views is.
           -- [what the view owns; the token; what s owns; the locals from _11 at 3 to _0 at 25]
-          land ! (from ! (stop !)) (init ! 15 refl (tt, (view-typed 𝓛 (κ, tt) d is).1)) $
-          assigns ! (of_opd ! (copied ! 15 refl)) (from ! (stop !)) (init ! 11 refl (tt, (view-typed 𝓛 (κ, tt) d is).1)) $
+          land ! (from ! (stop !)) (init ! 15 refl (tt, (view_typed 𝓛 (κ, tt) d is).1)) $
+          assigns ! (of_opd ! (copied ! 15 refl)) (from ! (stop !)) (init ! 11 refl (tt, (view_typed 𝓛 (κ, tt) d is).1)) $
           use2 𝓛 (raw ((Refusal 𝓛 mem run).pre (to-refusal d)) ⊛ ‵ (OwnV (κ, tt) d)) (goes_on d) $ split ! $
           calls 𝓛 refusal.ended (refusal.clauses 𝓛 mem run) fm known.refusal (to-refusal d) (λ a. a ≡ d.refusal) (λ a ws. id⊢ 𝓤 _)
           (vint w32) (uint_Tells w32) ! (and_then ! (copied ! 11 refl) (no_more !)) (λ a refused is-a.
           -- [a's facts; the token; what the view owns; what s owns; the locals from _11 at 4 to _0 at 26]
           land ! (from ! (stop !)) (init ! 14 refl (tt, record { fits = is-a.1 })) $ drop ! $ move ! (1 ∷ []) $
-          assigns ! (of_opd ! (copied ! 15 refl)) (from ! (stop !)) (init ! 7 refl (tt, (view-typed 𝓛 (κ, tt) d is).1)) $
+          assigns ! (of_opd ! (copied ! 15 refl)) (from ! (stop !)) (init ! 7 refl (tt, (view_typed 𝓛 (κ, tt) d is).1)) $
           use2 𝓛 (raw ((Count 𝓛 mem run).pre (to-count d)) ⊛ ‵ (OwnV (κ, tt) d)) (goes_on d) $ split ! $
           calls 𝓛 count.ended (count.clauses 𝓛 mem run) fm known.count (to-count d) (λ b. b ≡ length (shows d)) (λ b ws. id⊢ 𝓤 _)
           (vint w32) (uint_Tells w32) ! (and_then ! (copied ! 7 refl) (no_more !)) (λ b counted is_b.
           land ! (from ! (stop !)) (init ! 10 refl (tt, record { fits = is_b.1 })) $ drop ! $ move ! (1 ∷ []) $
-          assigns ! (of_opd ! (copied ! 15 refl)) (from ! (stop !)) (init ! 3 refl (tt, (view-typed 𝓛 (κ, tt) d is).1)) $
+          assigns ! (of_opd ! (copied ! 15 refl)) (from ! (stop !)) (init ! 3 refl (tt, (view_typed 𝓛 (κ, tt) d is).1)) $
           use2 𝓛 (raw ((At 𝓛 mem run).pre (to_at d))) (goes_at d) $
           -- [what the callee asks; what s owns; the locals from _11 at 2 to _0 at 24]
-          calls 𝓛 at.ended (at.clauses 𝓛 mem run) fm known.at (to_at d) (λ t. readingShown t ≡ get_elem? (shows d) i) (λ t ws. id⊢ 𝓤 _)
+          calls 𝓛 at.ended (at.clauses 𝓛 mem run) fm known.at (to_at d) (λ t. reading_shown t ≡ get_elem? (shows d) i) (λ t ws. id⊢ 𝓤 _)
           (EL.val S.the_type S'.the_laws) (EL.tells S.the_type S'.the_laws) !
           (and_then ! (copied ! 2 refl) (and_then ! (copied ! 16 refl) (no_more !))) (λ t read is-t.
           -- [what the shown reading owns; the token; what s owns; the locals from _11 at 3 to _0 at 25]
@@ -225,11 +225,11 @@ module _ {M : Type 1} {𝓤 : Ura M} (𝓛 : Logic 𝓤) (mem : Memory → SProp
       (λ κs. (shr_slice_Tells (named 0) κs.0 u8, (uint_Tells w32, (uint_Tells w32, (uint_Tells w32, tt)))))
       (λ κs qs bounds a g are. via 𝓤 _ (fst∗ 𝓤 _ (emp 𝓤))
       (walk κs.0 qs.0 a.0 a.1.0 a.1.1.0 a.1.1.1.0 are.1.0.1 are.1.1.0.1 are.1.1.1.0.1 C Λ fm known
-      (slice-typed 𝓛 κs a.0 are.0)))
+      (slice_typed 𝓛 κs a.0 are.0)))
 
   meets : (𝓣 : Tables 𝓤 H) → Known 𝓛 mem run 𝓣.C → Meets 𝓛 looks.signature (WpFn 𝓤 H 𝓣.C 𝓣.Λ code.function) (looks.spec 𝓛 mem run)
   meets 𝓣 known = walk_Meets 𝓛 looks.ended stayed
-      (slice-goes 𝓛, (number-goes 𝓛, (number-goes 𝓛, (number-goes 𝓛, tt)))) clauses
+      (slice_goes 𝓛, (number_goes 𝓛, (number_goes 𝓛, (number_goes 𝓛, tt)))) clauses
       (WpFn 𝓤 H 𝓣.C 𝓣.Λ code.function) (WpFn-mono 𝓤 H 𝓛.laws 𝓣 code.function) (walks 𝓣.C 𝓣.Λ (fm_of 𝓤 H 𝓛.laws 𝓣) known)
 
 pub look_spec : {M : Type 1} → stated.statement M

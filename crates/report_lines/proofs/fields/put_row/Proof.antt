@@ -2,8 +2,8 @@
 use borrow.Author.Rules.{rules}
 use native.Mathlib.Omega.{arith}
 use Rattle.text.specs.Text.{decimal}
-use Rattle.reel.specs.Machine.{replyOf}
-use Rattle.report_lines.specs.Report.{space, lineFeed, shown}
+use Rattle.reel.specs.Machine.{reply_of}
+use Rattle.report_lines.specs.Report.{space, line_feed, shown}
 use Rattle.report_lines.proofs.Texts.{put-behind}
 use Rattle.report_lines.proofs.fields.put_row.Statement.{statement}
 use Rattle.report_lines.proofs.fields.put_row.Tie as tie
@@ -40,9 +40,9 @@ returns c =
     let row = f1.before.before.before.args.row in
     let to = put-behind (decimal row.to) space (put-behind (decimal row.from) space f1.put-number.ensures.0 f2.put-number2.ensures.0)
     f3.put-number3.ensures.0 in
-    let trend = put-behind (shown (replyOf row.trend)) space (put-behind (shown (replyOf row.value)) space to a1.put-answer.ensures.0)
+    let trend = put-behind (shown (reply_of row.trend)) space (put-behind (shown (reply_of row.value)) space to a1.put-answer.ensures.0)
     a2.put-answer2.ensures.0 in (
-      put-behind (shown (replyOf row.total)) lineFeed trend a3.put-answer3.ensures.0,
+      put-behind (shown (reply_of row.total)) line_feed trend a3.put-answer3.ensures.0,
       omega (
         arith,
         f1.put-number.ensures.1,

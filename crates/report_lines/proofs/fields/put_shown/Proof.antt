@@ -4,7 +4,7 @@ use mathlib.Core.Path.{◌≡◌}
 use native.Mathlib.Omega.{arith}
 use mir.Syntax.{w64}
 use mir.Val.{to_z, of_z}
-use Rattle.report_lines.proofs.Texts.{put-none}
+use Rattle.report_lines.proofs.Texts.{put_none}
 use Rattle.report_lines.proofs.fields.put_shown.Statement.{statement}
 use Rattle.report_lines.proofs.fields.put_shown.Tie as tie
 
@@ -21,7 +21,7 @@ enum-known-answer-2 : tie.Need-enum-known-answer-2
 enum-known-answer-2 c = search rules
 
 returns : tie.Need-returns
-returns c = (rw c.enum_told.given.1 (put-none _ _), omega arith)
+returns c = (rw c.enum_told.given.1 (put_none _ _), omega arith)
 
 same_length : tie.Need-same-length
 same_length c = search rules
@@ -33,7 +33,7 @@ returns-2 c =
     (rw (a.given.1, ← back) c.before.before.put-signed.ensures.0, omega arith)
 
 returns-3 : tie.Need-returns-3
-returns-3 c = (rw c.before.answer2.given.1 (put-none _ _), omega arith)
+returns-3 c = (rw c.before.answer2.given.1 (put_none _ _), omega arith)
 
 pub put-shown-spec : {M : Type 1} → statement M
 put-shown-spec =

@@ -10,14 +10,14 @@ use Rattle.text.specs.Text.{Put}
 use Rattle.text.proofs.Sets.{put-put}
 use Rattle.scans.specs.Scan.{Scan}
 use Rattle.reel.specs.Machine.{scans}
-use Rattle.report_lines.specs.Report.{pieceLines}
-use Rattle.report_lines.proofs.Texts.{put-none, row_is}
+use Rattle.report_lines.specs.Report.{piece_lines}
+use Rattle.report_lines.proofs.Texts.{put_none, row_is}
 use Rattle.report_lines.proofs.lines.put_pieces.Statement.{statement}
 use Rattle.report_lines.proofs.lines.put_pieces.Tie as tie
 
 record Told (list : List Scan) (before : List ℕ) (k : ℕ) (out : List ℕ) (at : ℕ) : Type 0 where
   pub pieces : k ≤ length list - 1
-  pub put : Put before 0 (pieceLines list k) at out
+  pub put : Put before 0 (piece_lines list k) at out
   pub within : at ≤ 126 * k
   pub room : length out ≡ length before
 
@@ -31,8 +31,8 @@ count-requires : tie.Need-count-requires invariant-loop decreases-loop
 count-requires c κs = search rules
 
 loop-holds : tie.Need-loop-init invariant-loop decreases-loop
-unfolding pieceLines
-loop-holds c = record { pieces = omega arith; put = put-none _ _; within = omega arith; room = refl }
+unfolding piece_lines
+loop-holds c = record { pieces = omega arith; put = put_none _ _; within = omega arith; room = refl }
 
 few : (l : tie.At-loop invariant-loop decreases-loop) → length (scans l.before.before.before.args.reel) ≤ 129
 few l = l.before.before.before.requires.0.standing.count
@@ -56,7 +56,7 @@ loop-less : tie.Need-loop-smaller invariant-loop decreases-loop
 loop-less c = omega (arith, c.before.before.before.before.before.loop-test.true)
 
 loop-again : tie.Need-loop-preserved invariant-loop decreases-loop
-unfolding pieceLines
+unfolding piece_lines
 loop-again c =
     let i = c.before.before.before.before.before in
     let l = i.before in

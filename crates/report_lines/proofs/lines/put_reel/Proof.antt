@@ -3,7 +3,7 @@ use borrow.Author.Rules.{rules}
 use native.Mathlib.Omega.{arith}
 use Rattle.text.proofs.Sets.{put-put}
 use Rattle.reel.specs.Machine.{scans}
-use Rattle.report_lines.proofs.Texts.{reel-is}
+use Rattle.report_lines.proofs.Texts.{reel_is}
 use Rattle.report_lines.proofs.lines.put_reel.Statement.{statement}
 use Rattle.report_lines.proofs.lines.put_reel.Tie as tie
 
@@ -32,7 +32,7 @@ returns c =
     let n = t.before.count in
     let p = t.before.before.before.before in
     let reel = p.before.before.before.args.reel in (
-      put-put p.put-pieces.ensures.0 (rw (reel-is (scans reel) _ t.total.ensures.replies, n.ensures) at l.put-reel-line.ensures.0),
+      put-put p.put-pieces.ensures.0 (rw (reel_is (scans reel) _ t.total.ensures.replies, n.ensures) at l.put-reel-line.ensures.0),
       omega (arith, p.put-pieces.ensures.1),
     )
 

@@ -2,8 +2,8 @@
 use borrow.Author.Rules.{rules}
 use native.Mathlib.Omega.{arith}
 use Rattle.text.specs.Text.{decimal}
-use Rattle.reel.specs.Machine.{replyOf}
-use Rattle.report_lines.specs.Report.{space, lineFeed, shown}
+use Rattle.reel.specs.Machine.{reply_of}
+use Rattle.report_lines.specs.Report.{space, line_feed, shown}
 use Rattle.report_lines.proofs.Texts.{put-behind}
 use Rattle.report_lines.proofs.lines.put_reel_line.Statement.{statement}
 use Rattle.report_lines.proofs.lines.put_reel_line.Tie as tie
@@ -29,7 +29,7 @@ returns c =
     let f = a.before.before.before.before in
     let b = f.before.before.before.before in
     let given = b.before.before.before.before.args in (
-      put-behind (shown (replyOf given.total)) lineFeed (put-behind (decimal given.pieces) space b.put-bytes.ensures
+      put-behind (shown (reply_of given.total)) line_feed (put-behind (decimal given.pieces) space b.put-bytes.ensures
           f.put-number.ensures.0) a.put-answer.ensures.0,
       omega (arith, b.put-bytes.ensures.next, f.put-number.ensures.1),
     )

@@ -2,7 +2,7 @@
 use borrow.Author.Rules.{rules}
 use native.Mathlib.Omega.{arith}
 use Rattle.text.specs.Text.{decimal}
-use Rattle.report_lines.specs.Report.{lineFeed, refusedLine}
+use Rattle.report_lines.specs.Report.{line_feed, refused_line}
 use Rattle.report_lines.proofs.Texts.{put-behind}
 use Rattle.report_lines.proofs.lines.put_refused.Statement.{statement}
 use Rattle.report_lines.proofs.lines.put_refused.Tie as tie
@@ -23,12 +23,12 @@ same_length : tie.Need-same-length
 same_length c = search rules
 
 returns : tie.Need-returns
-unfolding refusedLine
+unfolding refused_line
 returns c =
     let p = c.before.before in
     let n = p.before in
     let b = n.before.before.before.before in (
-      rw (← n.number.ensures) (put-behind (decimal n.number.result) lineFeed b.put-bytes.ensures p.put-number.ensures.0),
+      rw (← n.number.ensures) (put-behind (decimal n.number.result) line_feed b.put-bytes.ensures p.put-number.ensures.0),
       omega (arith, b.put-bytes.ensures.next, p.put-number.ensures.1),
     )
 

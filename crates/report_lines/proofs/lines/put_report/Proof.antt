@@ -7,8 +7,8 @@ use Rattle.knot.specs.Machine.{refusal}
 use Rattle.scans.specs.RefusalTable.{first}
 use Rattle.block.specs.Reading.{list_of}
 use Rattle.reel.specs.Machine.{scans}
-use Rattle.report_lines.specs.Report.{reportCauses}
-use Rattle.report_lines.proofs.Opening.{reported-refusal, reported-reel, two-knots}
+use Rattle.report_lines.specs.Report.{report_causes}
+use Rattle.report_lines.proofs.Opening.{reported-refusal, reported_reel, two-knots}
 use Rattle.report_lines.proofs.lines.put_report.Statement.{statement}
 use Rattle.report_lines.proofs.lines.put_report.Tie as tie
 
@@ -38,7 +38,7 @@ enum_told c = search rules
 
 -- where no cause holds, the reel has the block's list
 module _ (t : tie.After-enum-told) where
-  free : first (reportCauses t.before.before.before.before.before.args.bytes.now) ≡ none
+  free : first (report_causes t.before.before.before.before.before.args.bytes.now) ≡ none
   free = sym t.before.before.open_block.ensures.verdict ∙ ap refusal t.enum_told.given.1
 
   list-is : scans t.before.before.open_block.result.reel ≡ list_of t.before.before.before.before.before.args.bytes.now
@@ -57,7 +57,7 @@ returns-2 : tie.Need-returns-2
 returns-2 c =
     let r = c.before.before in
     let t = r.before.before.before in
-    (rw (reported-reel _ (free t), ← list-is t) r.put-reel.ensures.0, r.put-reel.ensures.1)
+    (rw (reported_reel _ (free t), ← list-is t) r.put-reel.ensures.0, r.put-reel.ensures.1)
 
 pub put-report-spec : {M : Type 1} → statement M
 put-report-spec =

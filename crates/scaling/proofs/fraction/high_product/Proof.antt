@@ -1,6 +1,6 @@
 -- `scaling::fraction::high_product` meets its contract: the columns of the product, each of which fits.
 use Prim.Native.Nat.{ℕ, ◌+◌, ◌*◌, ◌-◌, ◌/◌, ◌^◌, ◌≤◌}
-use native.Mathlib.Nat.{mod-lt, mul-le-mul}
+use native.Mathlib.Nat.{mod_lt, mul-le-mul}
 use native.Mathlib.Omega.{arith}
 use lib.Bits.{bit_and, and_mask}
 use lib.Dec.{lit<}
@@ -19,7 +19,7 @@ abbrev Half : ℕ → Type 0
 Half x = x ≤ 2 ^ 32 - 1
 
 lower : (x : ℕ) → Half (bit_and x 4294967295)
-lower x = rw (and_mask x 32) (omega (arith, mod-lt x (lit< {n = 2 ^ 32} tt)))
+lower x = rw (and_mask x 32) (omega (arith, mod_lt x (lit< {n = 2 ^ 32} tt)))
 
 upper : {x : ℕ} → Fits w64 x → Half (x / 2 ^ 32)
 upper f = omega (arith, f.fits)

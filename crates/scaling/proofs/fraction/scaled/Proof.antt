@@ -11,13 +11,13 @@ use mir.Syntax.{w64}
 use mir.Val.{Fits, SFits, to_z, of_z}
 use mir.Facts.{to_z-of_z, to_z_pos}
 use Rattle.integer.specs.Within.{Within}
-use Rattle.integer.proofs.Within.{within-fits, computed-is}
+use Rattle.integer.proofs.Within.{within-fits, computed_is}
 use Rattle.rounding.specs.Scaling.{scaled}
 use Rattle.rounding.proofs.Bounds.{scaled-within}
 use Rattle.scaling.specs.Machine.{Prepared}
 use Rattle.scaling.specs.declared.fraction.Fraction.{Fraction}
-use Rattle.scaling.proofs.fraction.Halves.{high, low, low_below, high-up, high-dn, biased-most, dividend, dividend-is, dividend-most}
-use Rattle.scaling.proofs.fraction.Halves.{rest-fits, whole-most, whole-fits, quotient_is, quotient-most, difference-fits, steps-are}
+use Rattle.scaling.proofs.fraction.Halves.{high, low, low_below, high_up, high_dn, biased-most, dividend, dividend_is, dividend-most}
+use Rattle.scaling.proofs.fraction.Halves.{rest-fits, whole-most, whole-fits, quotient_is, quotient-most, difference_fits, steps-are}
 use Rattle.scaling.proofs.fraction.scaled.Statement.{statement}
 use Rattle.scaling.proofs.fraction.scaled.Tie as tie
 
@@ -39,8 +39,8 @@ module _ (b : tie.Start) where
   machine-high = to_z w64 (of_z w64 (shr_z (to_z w64 (of_z w64 u)) (2 ^ 32)))
 
   high_is : machine-high ≡ high u
-  high_is = computed-is (ap high (to_z-of_z b.fits.u))
-      (within-fits {B = 2 ^ 31} w64 (high u) (lit< tt) (record { hi = omega (arith, high-up u within); lo = high-dn u within }))
+  high_is = computed_is (ap high (to_z-of_z b.fits.u))
+      (within-fits {B = 2 ^ 31} w64 (high u) (lit< tt) (record { hi = omega (arith, high_up u within); lo = high_dn u within }))
 
   abbrev machine-low : ℤ
   machine-low = to_z w64 (bit_and (of_z w64 u) 4294967295)
@@ -67,7 +67,7 @@ module _ (b : tie.Start) where
   low-a-fits = record { sfits = omega (arith, biased-most u s known within) }
 
   biased-is : to_z w64 (of_z w64 (machine-low *ℤ to_z w64 s.a)) +ℤ to_z w64 s.bias ≡ pos (low u * s.a + s.bias)
-  biased-is = ap₂ (λ x y. x +ℤ y) (computed-is low-a-is low-a-fits) (to_z_pos w64 {n = s.bias} (omega (arith, biased-most u s known within)))
+  biased-is = ap₂ (λ x y. x +ℤ y) (computed_is low-a-is low-a-fits) (to_z_pos w64 {n = s.bias} (omega (arith, biased-most u s known within)))
 
   biased-fits : SFits w64 (pos (low u * s.a + s.bias))
   biased-fits = record { sfits = omega (arith, biased-most u s known within) }
@@ -77,19 +77,19 @@ module _ (b : tie.Start) where
       to_z w64 (of_z w64 (machine-high *ℤ to_z w64 s.rest)) +ℤ to_z w64 (of_z w64 (to_z w64 (of_z w64 (machine-low *ℤ to_z w64 s.a)) +ℤ to_z w64 s.bias))
 
   machine-dividend-is : machine-dividend ≡ pos (dividend u s known within)
-  machine-dividend-is = ap₂ (λ x y. x +ℤ y) (computed-is high-rest-is (rest-fits u s known within)) (computed-is biased-is biased-fits) ∙
-      dividend-is u s known within
+  machine-dividend-is = ap₂ (λ x y. x +ℤ y) (computed_is high-rest-is (rest-fits u s known within)) (computed_is biased-is biased-fits) ∙
+      dividend_is u s known within
 
   dividend-fits : SFits w64 (pos (dividend u s known within))
   dividend-fits = record { sfits = omega (arith, dividend-most u s known within) }
 
   dividend-natural : T (non_neg (to_z w64 (of_z w64 machine-dividend))) × Fits w64 (nat_abs (to_z w64 (of_z w64 machine-dividend)))
-  dividend-natural = rw (computed-is machine-dividend-is dividend-fits) (tt, record { fits = omega (arith, dividend-most u s known within) })
+  dividend-natural = rw (computed_is machine-dividend-is dividend-fits) (tt, record { fits = omega (arith, dividend-most u s known within) })
 
   -- the high product
   module _ (q : ℕ) (quotient : q ≡ nat_abs (to_z w64 (of_z w64 machine-dividend)) * s.reciprocal / 2 ^ 64) where
     q-is : q ≡ dividend u s known within / s.d
-    q-is = quotient ∙ ap (λ z. nat_abs z * s.reciprocal / 2 ^ 64) (computed-is machine-dividend-is dividend-fits) ∙ quotient_is u s known within
+    q-is = quotient ∙ ap (λ z. nat_abs z * s.reciprocal / 2 ^ 64) (computed_is machine-dividend-is dividend-fits) ∙ quotient_is u s known within
 
     q-most : q ≤ 2 ^ 46
     q-most = rw q-is (quotient-most u s known within)
@@ -98,7 +98,7 @@ module _ (b : tie.Start) where
     difference-is = ap (λ z. z -ℤ pos (2 ^ 32)) (to_z_pos w64 {n = q} (omega (arith, q-most)) ∙ ap pos q-is)
 
     sum_is : to_z w64 (of_z w64 (machine-high *ℤ to_z w64 s.whole)) +ℤ to_z w64 (of_z w64 (to_z w64 q -ℤ pos (2 ^ 32))) ≡ scaled u s.a s.d
-    sum_is = ap₂ (λ x y. x +ℤ y) (computed-is high-whole-is (whole-fits u s known within)) (computed-is difference-is (difference-fits u s known within)) ∙
+    sum_is = ap₂ (λ x y. x +ℤ y) (computed_is high-whole-is (whole-fits u s known within)) (computed_is difference-is (difference_fits u s known within)) ∙
         steps-are u s known within
 
   scaled_fits : SFits w64 (scaled u s.a s.d)
@@ -106,7 +106,7 @@ module _ (b : tie.Start) where
 
 -- the result first: it is what a wrong scaling fails to be
 returns : tie.Need-returns
-returns c = let b = c.before.before.before.before.before in computed-is (sum_is b c.high_product.result c.high_product.ensures) (scaled_fits b)
+returns c = let b = c.before.before.before.before.before in computed_is (sum_is b c.high_product.result c.high_product.ensures) (scaled_fits b)
 
 cast-dividend : tie.Need-overflow-cast-dividend
 cast-dividend c = search rules
@@ -149,7 +149,7 @@ cast-result-2 c =
 sub-result : tie.Need-overflow-sub-result
 sub-result c =
     let b = c.before.before.before.before.before in
-    rw (difference-is b c.high_product.result c.high_product.ensures) (difference-fits (u b) (s b) (known b) (within b))
+    rw (difference-is b c.high_product.result c.high_product.ensures) (difference_fits (u b) (s b) (known b) (within b))
 
 add-result : tie.Need-overflow-add-result
 add-result c = let b = c.before.before.before.before.before in rw (sum_is b c.high_product.result c.high_product.ensures) (scaled_fits b)

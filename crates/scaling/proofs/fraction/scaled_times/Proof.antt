@@ -6,20 +6,20 @@ use native.Mathlib.Omega.{arith}
 use mir.Syntax.{w64}
 use mir.Val.{to_z}
 use mir.Facts.{to_z-of_z}
-use Rattle.rounding.specs.Scaling.{scaled, scaledTimes}
+use Rattle.rounding.specs.Scaling.{scaled, scaled_times}
 use Rattle.rounding.proofs.Bounds.{times-within}
-use Rattle.integer.proofs.Within.{result-is}
+use Rattle.integer.proofs.Within.{result_is}
 use Rattle.scaling.proofs.fraction.scaled_times.Statement.{statement}
 use Rattle.scaling.proofs.fraction.scaled_times.Tie as tie
 
 abbrev invariant-loop : tie.invariant-loop
-invariant-loop k u s v₀ i₀ v i = (i ≤ k) × (to_z w64 v ≡ scaledTimes i (to_z w64 u) s.a s.d)
+invariant-loop k u s v₀ i₀ v i = (i ≤ k) × (to_z w64 v ≡ scaled_times i (to_z w64 u) s.a s.d)
 
 abbrev decreases-loop : tie.decreases-loop
 decreases-loop k u s v₀ i₀ v i = k - i
 
 loop-holds : tie.Need-loop-init invariant-loop decreases-loop
-unfolding scaledTimes
+unfolding scaled_times
 loop-holds c = (omega arith, refl)
 
 scaled-requires : tie.Need-scaled-requires invariant-loop decreases-loop
@@ -37,12 +37,12 @@ loop-less : tie.Need-loop-smaller invariant-loop decreases-loop
 loop-less c = omega arith
 
 loop-again : tie.Need-loop-preserved invariant-loop decreases-loop
-unfolding scaledTimes
+unfolding scaled_times
 loop-again c =
     let b = c.before.before.before in
     let l = c.before.before.loop in (
       omega arith,
-      rw (result-is c.scaled.result c.scaled.type-inv, add-one)
+      rw (result_is c.scaled.result c.scaled.type-inv, add-one)
           (c.scaled.ensures ∙ ap (λ z. scaled z b.args.s.a b.args.s.d) l.invariant.1),
     )
 

@@ -5,14 +5,14 @@ use native.Mathlib.Numerals.{add-one}
 use native.Mathlib.Omega.{arith}
 use lib.ListN.{length, drop, length-set}
 use lib.Seq.{sets, drop-cons, drop-length}
-use Rattle.text.specs.Text.{hexText}
-use Rattle.text.proofs.Sets.{hex-length}
+use Rattle.text.specs.Text.{hex_text}
+use Rattle.text.proofs.Sets.{hex_length}
 use Rattle.text.proofs.bytes.put_hex.Statement.{statement}
 use Rattle.text.proofs.bytes.put_hex.Tie as tie
 
 abbrev invariant-loop : tie.invariant-loop
 invariant-loop out₀ at bytes to₀ i₀ out to i =
-    (i ≤ length bytes) × (to ≡ at + 2 * i) × (length out ≡ length out₀) × (sets out to (hexText (drop i bytes)) ≡ sets out₀ at (hexText bytes))
+    (i ≤ length bytes) × (to ≡ at + 2 * i) × (length out ≡ length out₀) × (sets out to (hex_text (drop i bytes)) ≡ sets out₀ at (hex_text bytes))
 
 abbrev decreases-loop : tie.decreases-loop
 decreases-loop out₀ at bytes to₀ i₀ out to i = length bytes - i
@@ -65,7 +65,7 @@ returns : tie.Need-returns invariant-loop decreases-loop
 returns c =
     let bytes = c.before.before.before.before.args.bytes.now in
     let e : c.before.loop.i ≡ length bytes = omega arith in
-    (record { next = omega (arith, hex-length bytes); holds = rw (e, drop-length bytes) at c.before.loop.invariant.3 }, omega arith)
+    (record { next = omega (arith, hex_length bytes); holds = rw (e, drop-length bytes) at c.before.loop.invariant.3 }, omega arith)
 
 pub put-hex-spec : {M : Type 1} → statement M
 put-hex-spec =

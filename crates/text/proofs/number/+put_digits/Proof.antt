@@ -6,7 +6,7 @@ use lib.ListN.{length, length-append, length-set}
 use borrow.Fn.Kinds.{In}
 use borrow.Fn.PlainCycle.{Measures, is, falls, and}
 use Rattle.text.specs.Text.{decimal}
-use Rattle.text.proofs.Digits.{one-digit, more-digits}
+use Rattle.text.proofs.Digits.{one_digit, more_digits}
 use Rattle.text.proofs.Sets.{put_one, put-put}
 use Rattle.text.proofs.number.put_digits.Reads as put-digits
 use Rattle.text.proofs.number.put_digits.Kinds as put-digits-kinds
@@ -25,10 +25,10 @@ abbrev put-digits-below : ℕ → In 1 put-digits-kinds.ps
 put-digits-below t = and 1 put-digits-kinds.ps (falls 1 put-digits-kinds.ps ◌<◌ μ-put-digits t) put-digits.Pre
 
 one-room : (n at room : ℕ) → n < 10 → at + length (decimal n) ≤ room → at < room
-one-room n at room l h = omega (arith, rw (one-digit n l) at h)
+one-room n at room l h = omega (arith, rw (one_digit n l) at h)
 
 more_room : (n at room : ℕ) → 10 ≤ n → at + length (decimal n) ≤ room → at + length (decimal (n / 10)) < room
-more_room n at room l h = omega (arith, rw (more-digits n l, length-append) at h)
+more_room n at room l h = omega (arith, rw (more_digits n l, length-append) at h)
 
 module _ (t : ℕ) where
   cast-out : put-digits-lts.Need-overflow-cast-out (put-digits-below t, put-digits.Post) (put-digits-at t) put-digits.Post
@@ -47,7 +47,7 @@ module _ (t : ℕ) where
   same_length c = simp length-set
 
   returns : put-digits-lts.Need-returns (put-digits-below t, put-digits.Post) (put-digits-at t) put-digits.Post
-  returns c = rw (one-digit c.before.before.args.n c.if1.true) (put_one _ _ _)
+  returns c = rw (one_digit c.before.before.args.n c.if1.true) (put_one _ _ _)
 
   put-digits-requires : put-digits-lts.Need-put-digits-requires (put-digits-below t, put-digits.Post) (put-digits-at t) put-digits.Post
   put-digits-requires c κs =
@@ -83,7 +83,7 @@ module _ (t : ℕ) where
 
   returns-2 : put-digits-lts.Need-returns-2 (put-digits-below t, put-digits.Post) (put-digits-at t) put-digits.Post
   returns-2 c =
-      rw (more-digits c.before.before.before.before.before.before.args.n c.before.before.before.before.if1.false)
+      rw (more_digits c.before.before.before.before.before.before.args.n c.before.before.before.before.if1.false)
       (put-put c.before.before.put-digits.ensures (put_one _ _ _))
 
 pub +put-digits-spec : {M : Type 1} → statement M

@@ -6,28 +6,28 @@ use Prim.Native.Nat.{◌≤◌}
 use native.Mathlib.Omega.{arith}
 use lib.ListN.{length, length-set}
 use mir.Facts.{to_z-of_z}
-use Rattle.text.specs.Text.{decimal, signedDecimal}
-use Rattle.text.proofs.Digits.{signed-length, signed_below, signed-from}
+use Rattle.text.specs.Text.{decimal, signed_decimal}
+use Rattle.text.proofs.Digits.{signed_length, signed_below, signed_from}
 use Rattle.text.proofs.Sets.{put_one, put-put, put-within}
 use Rattle.text.proofs.number.put_signed.Statement.{statement}
 use Rattle.text.proofs.number.put_signed.Tie as tie
 
 module _ (b : tie.Start) where
-  short : length (signedDecimal b.args.z) ≤ 20
-  short = signed-length b.args.z b.ranges.z
+  short : length (signed_decimal b.args.z) ≤ 20
+  short = signed_length b.args.z b.ranges.z
 
 -- the text, by the magnitude that was answered
 module _ (c : tie.After-magnitude) where
-  below : signedDecimal c.before.before.before.before.args.z ≡ 45 ∷ decimal c.magnitude.result
+  below : signed_decimal c.before.before.before.before.args.z ≡ 45 ∷ decimal c.magnitude.result
   below =
       let b = c.before.before.before.before in
       rw (c.magnitude.ensures, to_z-of_z b.ranges.z) (signed_below b.args.z (rw (to_z-of_z b.ranges.z) at c.before.before.if1.true))
 
 module _ (c : tie.After-magnitude2) where
-  from : signedDecimal c.before.before.before.before.args.z ≡ decimal c.magnitude2.result
+  from : signed_decimal c.before.before.before.before.args.z ≡ decimal c.magnitude2.result
   from =
       let b = c.before.before.before.before in
-      rw (c.magnitude2.ensures, to_z-of_z b.ranges.z) (signed-from b.args.z (rw (to_z-of_z b.ranges.z) at c.before.before.if1.false))
+      rw (c.magnitude2.ensures, to_z-of_z b.ranges.z) (signed_from b.args.z (rw (to_z-of_z b.ranges.z) at c.before.before.if1.false))
 
 slice-write-out : tie.Need-slice-write-out
 slice-write-out c = search rules

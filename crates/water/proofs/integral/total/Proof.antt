@@ -10,14 +10,15 @@ use mir.Syntax.{w64}
 use mir.Val.{SFits, to_z, of_z}
 use mir.Facts.{to_z_pos}
 use Rattle.integer.specs.Sum.{sum}
-use Rattle.hermite.specs.Blend.{rightWeights}
-use Rattle.hermite.specs.Water.{weightedSum, c as Water·c}
+use Rattle.hermite.specs.Blend.{right_weights}
+use Rattle.hermite.specs.Water
+use Rattle.hermite.specs.Water.{weighted_sum}
 use Rattle.rounding.specs.Piece.{Piece, piece, m, n, p, q}
 use Rattle.rounding.specs.Water.{total}
-use Rattle.rounding.proofs.Fits.{left-weight, right-weight, weightedSum-within, total-within}
+use Rattle.rounding.proofs.Fits.{left-weight, right-weight, weighted_sum-within, total-within}
 use Rattle.knot_weights.proofs.Lists.{listed-weights}
-use Rattle.integer.proofs.Within.{within-fits, computed-is, result-is}
-use Rattle.water.proofs.integral.ByTable.{part_small, sums-by-table}
+use Rattle.integer.proofs.Within.{within-fits, computed_is, result_is}
+use Rattle.water.proofs.integral.ByTable.{part_small, sums_by_table}
 use Rattle.water.proofs.integral.total.Statement.{statement}
 use Rattle.water.proofs.integral.total.Tie as tie
 
@@ -31,36 +32,36 @@ P c = piece (start c).args.h (start c).args.left.now (start c).args.right.now
 -- the two ends, and h times their sum
 module _ (c : tie.After-weighted2) where
   -- by the table
-  sides-are : (c.before.before.before.before.weighted.result ≡ sum (m (P c)) (λ j. p (P c) j *ℤ pos (Water·c (m (P c)) (n (P c)) j))) ×
-      (c.weighted2.result ≡ sum (n (P c)) (λ j. rightWeights (q (P c)) j *ℤ pos (Water·c (n (P c)) (m (P c)) j)))
+  sides-are : (c.before.before.before.before.weighted.result ≡ sum (m (P c)) (λ j. p (P c) j *ℤ pos (Water.c (m (P c)) (n (P c)) j))) ×
+      (c.weighted2.result ≡ sum (n (P c)) (λ j. right_weights (q (P c)) j *ℤ pos (Water.c (n (P c)) (m (P c)) j)))
   sides-are =
       let a = c.before.before.before.before.before.before.before.before in
       let b = a.before in
       let d = b.before.before in
-      sums-by-table a.integral-weights.result a.integral-weights.ensures (m (P c)) (n (P c)) (omega arith) (omega arith)
+      sums_by_table a.integral-weights.result a.integral-weights.ensures (m (P c)) (n (P c)) (omega arith) (omega arith)
       d.weights.new.1.1.0 b.right-weights.new.1.1.0
       (λ j h. d.weights.ensures.entry j (omega arith)) (λ j h. b.right-weights.ensures.entry j (omega arith))
       c.before.before.before.before.weighted.ensures c.weighted2.ensures
 
-  sum_is : to_z w64 (of_z w64 c.before.before.before.before.weighted.result) +ℤ to_z w64 (of_z w64 c.weighted2.result) ≡ weightedSum (m (P c))
+  sum_is : to_z w64 (of_z w64 c.before.before.before.before.weighted.result) +ℤ to_z w64 (of_z w64 c.weighted2.result) ≡ weighted_sum (m (P c))
       (n (P c)) (p (P c)) (q (P c))
-  unfolding weightedSum
-  sum_is = ap₂ (λ x y. x +ℤ y) (result-is c.before.before.before.before.weighted.result c.before.before.before.before.weighted.type-inv ∙
-      sides-are.0) (result-is c.weighted2.result c.weighted2.type-inv ∙ sides-are.1)
+  unfolding weighted_sum
+  sum_is = ap₂ (λ x y. x +ℤ y) (result_is c.before.before.before.before.weighted.result c.before.before.before.before.weighted.type-inv ∙
+      sides-are.0) (result_is c.weighted2.result c.weighted2.type-inv ∙ sides-are.1)
 
-  sum_fits : SFits w64 (weightedSum (m (P c)) (n (P c)) (p (P c)) (q (P c)))
-  sum_fits = within-fits w64 _ (lit< tt) (weightedSum-within (P c) (start c).requires)
+  sum_fits : SFits w64 (weighted_sum (m (P c)) (n (P c)) (p (P c)) (q (P c)))
+  sum_fits = within-fits w64 _ (lit< tt) (weighted_sum-within (P c) (start c).requires)
 
-  total-is : to_z w64 (start c).args.h *ℤ to_z w64 (of_z w64 (to_z w64 (of_z w64 c.before.before.before.before.weighted.result) +ℤ to_z w64
+  total_is : to_z w64 (start c).args.h *ℤ to_z w64 (of_z w64 (to_z w64 (of_z w64 c.before.before.before.before.weighted.result) +ℤ to_z w64
       (of_z w64 c.weighted2.result))) ≡ total (P c)
   unfolding total
-  total-is = ap₂ (λ x y. x *ℤ y) (to_z_pos w64 {n = (start c).args.h} (omega arith)) (computed-is sum_is sum_fits)
+  total_is = ap₂ (λ x y. x *ℤ y) (to_z_pos w64 {n = (start c).args.h} (omega arith)) (computed_is sum_is sum_fits)
 
   total-fits : SFits w64 (total (P c))
   total-fits = within-fits w64 (total (P c)) (lit< tt) (total-within (P c) (start c).requires)
 
 returns : tie.Need-returns
-returns c = computed-is (total-is c) (total-fits c)
+returns c = computed_is (total_is c) (total-fits c)
 
 -- ---- the needs
 
@@ -158,7 +159,7 @@ add-result : tie.Need-overflow-add-result
 add-result c = rw (sum_is c) (sum_fits c)
 
 mul-result : tie.Need-overflow-mul-result
-mul-result c = rw (total-is c) (total-fits c)
+mul-result c = rw (total_is c) (total-fits c)
 
 pub total-spec : {M : Type 1} → statement M
 total-spec =

@@ -5,24 +5,24 @@ use native.Mathlib.Omega.{arith}
 use mir.Syntax.{w64}
 use mir.Val.{to_z}
 use mir.Facts.{to_z-of_z}
-use Rattle.integer.specs.Sum.{sum as Sum·sum}
-use Rattle.integer.proofs.Within.{computed-is}
-use Rattle.water.proofs.integral.Terms.{term, entry-fits, machine-term, term_fits, sum_fits, machine-sum}
+use Rattle.integer.specs.Sum
+use Rattle.integer.proofs.Within.{computed_is}
+use Rattle.water.proofs.integral.Terms.{term, entry-fits, machine_term, term_fits, sum_fits, machine_sum}
 use Rattle.water.proofs.integral.weighted.Statement.{statement}
 use Rattle.water.proofs.integral.weighted.Tie as tie
 
 abbrev invariant-loop : tie.invariant-loop
-invariant-loop m c w sum₀ j₀ sum j = (j ≤ m) × (to_z w64 sum ≡ Sum·sum j (term c w))
+invariant-loop m c w sum₀ j₀ sum j = (j ≤ m) × (to_z w64 sum ≡ Sum.sum j (term c w))
 
 abbrev decreases-loop : tie.decreases-loop
 decreases-loop m c w sum₀ j₀ sum j = m - j
 
 loop-holds : tie.Need-loop-init invariant-loop decreases-loop
-unfolding Sum·sum
+unfolding Sum.sum
 loop-holds c =
     let b = c.before.before in (
       omega arith,
-      computed-is (machine-term b.args.c.now b.args.w.now b.requires.2 b.requires.3 0 (omega arith))
+      computed_is (machine_term b.args.c.now b.args.w.now b.requires.2 b.requires.3 0 (omega arith))
           (term_fits b.args.c.now b.args.w.now b.requires.2 b.requires.3 0 (omega arith)),
     )
 
@@ -31,7 +31,7 @@ loop-again c =
     let l = c.before.before.before in
     let b = l.before.before.before in (
       omega arith,
-      rw (machine-sum b.args.c.now b.args.w.now b.requires.2 b.requires.3 _ l.loop.j (omega arith) l.loop.invariant.1)
+      rw (machine_sum b.args.c.now b.args.w.now b.requires.2 b.requires.3 _ l.loop.j (omega arith) l.loop.invariant.1)
           (to_z-of_z (sum_fits b.args.c.now b.args.w.now b.requires.2 b.requires.3 (l.loop.j + 1) (omega arith))),
     )
 
@@ -52,7 +52,7 @@ shared-slice-copy-out-sum : tie.Need-shared-slice-copy-out-sum invariant-loop de
 shared-slice-copy-out-sum c = omega (arith, c.before.requires.3.count)
 
 mul-sum : tie.Need-overflow-mul-sum invariant-loop decreases-loop
-mul-sum c = let b = c.before.before in rw (machine-term b.args.c.now b.args.w.now b.requires.2 b.requires.3 0 (omega arith))
+mul-sum c = let b = c.before.before in rw (machine_term b.args.c.now b.args.w.now b.requires.2 b.requires.3 0 (omega arith))
     (term_fits b.args.c.now b.args.w.now b.requires.2 b.requires.3 0 (omega arith))
 
 add-j : tie.Need-overflow-add-j invariant-loop decreases-loop
@@ -78,14 +78,14 @@ mul-sum-4 : tie.Need-overflow-mul-sum-4 invariant-loop decreases-loop
 mul-sum-4 c =
     let l = c.before.before.before in
     let b = l.before.before.before in
-    rw (machine-term b.args.c.now b.args.w.now b.requires.2 b.requires.3 (l.loop.j + 1) (omega arith))
+    rw (machine_term b.args.c.now b.args.w.now b.requires.2 b.requires.3 (l.loop.j + 1) (omega arith))
     (term_fits b.args.c.now b.args.w.now b.requires.2 b.requires.3 (l.loop.j + 1) (omega arith))
 
 add-sum : tie.Need-overflow-add-sum invariant-loop decreases-loop
 add-sum c =
     let l = c.before.before.before in
     let b = l.before.before.before in
-    rw (machine-sum b.args.c.now b.args.w.now b.requires.2 b.requires.3 _ l.loop.j (omega arith) l.loop.invariant.1)
+    rw (machine_sum b.args.c.now b.args.w.now b.requires.2 b.requires.3 _ l.loop.j (omega arith) l.loop.invariant.1)
     (sum_fits b.args.c.now b.args.w.now b.requires.2 b.requires.3 (l.loop.j + 1) (omega arith))
 
 loop-less : tie.Need-loop-smaller invariant-loop decreases-loop

@@ -8,23 +8,23 @@ use Prim.Native.Nat.{ℕ, zero, suc, ◌-◌}
 use native.Mathlib.Omega.{arith}
 use lib.ListN.{length, drop, get_or}
 use Rattle.scans.specs.RefusalTable.{first}
-use Rattle.block.specs.Fields.{kind, wordsBefore}
+use Rattle.block.specs.Fields.{kind, words_before}
 use Rattle.block.specs.Bytes.{words}
 use Rattle.block.proofs.Bytes.{length-words}
-use Rattle.block.specs.Reading.{endCauses}
+use Rattle.block.specs.Reading.{end_causes}
 use Rattle.word_faults.proofs.faults.end_fault.Statement.{statement}
 use Rattle.word_faults.proofs.faults.end_fault.Tie as tie
 
 -- ---- the last word stands in place k, or it does not
 
-not_last : (b : ℕ) (ws : List ℕ) (k : ℕ) → (suc k ≡ length ws → ⊥) → first (endCauses b (drop k ws)) ≡ some 1
+not_last : (b : ℕ) (ws : List ℕ) (k : ℕ) → (suc k ≡ length ws → ⊥) → first (end_causes b (drop k ws)) ≡ some 1
 not_last b [] zero h = refl
 not_last b [] (suc k) h = refl
 not_last b (w ∷ []) zero h = absurd (h refl)
 not_last b (w ∷ v ∷ over) zero h = refl
 not_last b (w ∷ ws) (suc k) h = not_last b ws k (λ e. h (ap suc e))
 
-the_last : (b : ℕ) (ws : List ℕ) (k : ℕ) → suc k ≡ length ws → first (endCauses b (drop k ws)) ≡ first (endCauses b (get_or ws k 0 ∷ []))
+the_last : (b : ℕ) (ws : List ℕ) (k : ℕ) → suc k ≡ length ws → first (end_causes b (drop k ws)) ≡ first (end_causes b (get_or ws k 0 ∷ []))
 the_last b [] k e = absurd (omega arith)
 the_last b (w ∷ []) zero e = refl
 the_last b (w ∷ v ∷ over) zero e = absurd (omega arith)
@@ -63,12 +63,12 @@ before-it c = let a = c.before.before.before.args in omega (arith, length-words 
 
 ends : (c : tie.After-load) → let a = c.before.before.before.before.args in
     let ws = words a.block.now in
-    first (endCauses (length ws - 1) (drop a.k ws)) ≡ first (endCauses a.k (c.load.result ∷ []))
+    first (end_causes (length ws - 1) (drop a.k ws)) ≡ first (end_causes a.k (c.load.result ∷ []))
 ends c =
     let a = c.before.before.before.before.args in
     let ws = words a.block.now in
     let b : length ws - 1 ≡ a.k = omega (arith, before-it c.before) in
-    the_last (length ws - 1) ws a.k (before-it c.before) ∙ ap₂ (λ n w. first (endCauses n (w ∷ []))) b (sym c.load.ensures.0)
+    the_last (length ws - 1) ws a.k (before-it c.before) ∙ ap₂ (λ n w. first (end_causes n (w ∷ []))) b (sym c.load.ensures.0)
 
 returns-3 : tie.Need-returns-3
 returns-3 c =
@@ -79,7 +79,7 @@ returns-3 c =
     rw (
       ends l,
       eq-eqb (kind w) 3 (sym k.before.kind.ensures ∙ k.match.keys1),
-      ne_eqb (wordsBefore w) n (λ e. c.if3.true (c.before.words-before.ensures ∙ e)),
+      ne_eqb (words_before w) n (λ e. c.if3.true (c.before.words-before.ensures ∙ e)),
     ) refl
 
 returns-4 : tie.Need-returns-4
@@ -91,7 +91,7 @@ returns-4 c =
     rw (
       ends l,
       eq-eqb (kind w) 3 (sym k.before.kind.ensures ∙ k.match.keys1),
-      eq-eqb (wordsBefore w) n (sym c.before.words-before.ensures ∙ c.if3.false),
+      eq-eqb (words_before w) n (sym c.before.words-before.ensures ∙ c.if3.false),
     ) refl
 
 returns-5 : tie.Need-returns-5

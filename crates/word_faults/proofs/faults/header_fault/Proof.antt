@@ -6,11 +6,11 @@ use mathlib.Core.List.{[], ◌∷◌}
 use mathlib.Core.Path.{◌≡◌, refl, sym, ◌∙◌, ap}
 use Prim.Native.Nat.{◌<◌, ◌≤◌}
 use native.Mathlib.Omega.{arith}
-use Rattle.rounding.specs.Limits.{knotsMax}
-use Rattle.scans.specs.RefusalTable.{first, tooMany}
-use Rattle.block.specs.Fields.{kind, edition, headerSpare, knotCount}
-use Rattle.block.specs.Reading.{isEdition, headerCauses}
-use Rattle.block.proofs.Steps.{header-form}
+use Rattle.rounding.specs.Limits.{knots_max}
+use Rattle.scans.specs.RefusalTable.{first, too_many}
+use Rattle.block.specs.Fields.{kind, edition, header_spare, knot_count}
+use Rattle.block.specs.Reading.{is_edition, header_causes}
+use Rattle.block.proofs.Steps.{header_form}
 use Rattle.word_faults.proofs.faults.header_fault.Statement.{statement}
 use Rattle.word_faults.proofs.faults.header_fault.Tie as tie
 
@@ -18,58 +18,58 @@ use Rattle.word_faults.proofs.faults.header_fault.Tie as tie
 is-kind : (c : tie.At-match-keys1) → kind c.before.before.args.word ≡ 0
 is-kind c = sym c.before.kind.ensures ∙ c.match.keys1
 
-edition-is : (c : tie.After-is-edition) → c.is-edition.result ≡ isEdition (edition c.before.before.before.before.args.word)
-edition-is c = c.is-edition.ensures ∙ ap isEdition c.before.edition.ensures
+edition-is : (c : tie.After-is-edition) → c.is-edition.result ≡ is_edition (edition c.before.before.before.before.args.word)
+edition-is c = c.is-edition.ensures ∙ ap is_edition c.before.edition.ensures
 
-is_read : (c : tie.Else1) → isEdition (edition c.before.before.before.before.before.args.word) ≡ true
+is_read : (c : tie.Else1) → is_edition (edition c.before.before.before.before.before.args.word) ≡ true
 is_read c = sym (edition-is c.before) ∙ not-false _ c.if1.false
 
-no-spare : (c : tie.Else2) → headerSpare c.before.before.before.before.before.before.before.args.word ≡ 0
-no-spare c = sym c.before.header-spare.ensures ∙ c.if2.false
+no-spare : (c : tie.Else2) → header_spare c.before.before.before.before.before.before.before.args.word ≡ 0
+no-spare c = sym c.before.header_spare_lem.ensures ∙ c.if2.false
 
 returns : tie.Need-returns
 returns c =
     let k = c.before.before.before in
     let w = k.before.before.args.word in
-    sym (header-form w (rw (eq-eqb (kind w) 0 (is-kind k), sym (edition-is c.before) ∙ not-true _ c.if1.true) refl))
+    sym (header_form w (rw (eq-eqb (kind w) 0 (is-kind k), sym (edition-is c.before) ∙ not-true _ c.if1.true) refl))
 
 returns-2 : tie.Need-returns-2
 returns-2 c =
     let e = c.before.before in
     let k = e.before.before.before in
     let w = k.before.before.args.word in
-    sym (header-form w
+    sym (header_form w
     (rw (
       eq-eqb (kind w) 0 (is-kind k),
       is_read e,
-      ne_eqb (headerSpare w) 0 (λ z. c.if2.true (c.before.header-spare.ensures ∙ z)),
+      ne_eqb (header_spare w) 0 (λ z. c.if2.true (c.before.header_spare_lem.ensures ∙ z)),
     ) refl))
 
 -- a header: what is left is 2
 counted : (c : tie.After-knot-count) → let w = c.before.before.before.before.before.before.before.before.args.word in
-    first (headerCauses w) ≡ first (tooMany (knotCount w) ∷ [])
+    first (header_causes w) ≡ first (too_many (knot_count w) ∷ [])
 counted c =
     let e = c.before.before.before in
     let k = e.before.before.before in
     let w = k.before.before.args.word in
-    rw (eq-eqb (kind w) 0 (is-kind k), is_read e, eq-eqb (headerSpare w) 0 (no-spare c.before)) refl
+    rw (eq-eqb (kind w) 0 (is-kind k), is_read e, eq-eqb (header_spare w) 0 (no-spare c.before)) refl
 
 returns-3 : tie.Need-returns-3
 returns-3 c =
-    let n = knotCount c.before.before.before.before.before.before.before.before.before.args.word in
-    let over : knotsMax < n = omega (arith, c.before.knot-count.ensures, c.if3.true) in
-    rw (counted c.before, lt-ltb knotsMax n over) refl
+    let n = knot_count c.before.before.before.before.before.before.before.before.before.args.word in
+    let over : knots_max < n = omega (arith, c.before.knot-count.ensures, c.if3.true) in
+    rw (counted c.before, lt-ltb knots_max n over) refl
 
 returns-4 : tie.Need-returns-4
 returns-4 c =
-    let n = knotCount c.before.before.before.before.before.before.before.before.before.args.word in
-    let within : n ≤ knotsMax = omega (arith, c.before.knot-count.ensures, c.if3.false) in
-    rw (counted c.before, le-ltb knotsMax n within) refl
+    let n = knot_count c.before.before.before.before.before.before.before.before.before.args.word in
+    let within : n ≤ knots_max = omega (arith, c.before.knot-count.ensures, c.if3.false) in
+    rw (counted c.before, le-ltb knots_max n within) refl
 
 returns-5 : tie.Need-returns-5
 returns-5 c =
     let w = c.before.before.args.word in
-    sym (header-form w (rw (ne_eqb (kind w) 0 (λ e. c.match.rest.1 (c.before.kind.ensures ∙ e))) refl))
+    sym (header_form w (rw (ne_eqb (kind w) 0 (λ e. c.match.rest.1 (c.before.kind.ensures ∙ e))) refl))
 
 -- ---- the needs
 

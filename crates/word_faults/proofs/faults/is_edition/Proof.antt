@@ -2,15 +2,15 @@
 use borrow.Author.Rules.{rules}
 use borrow.Author.Tests.{eq-eqb, ne_eqb}
 use mathlib.Core.Path.{refl}
-use Rattle.block.specs.Block.{plainEdition}
+use Rattle.block.specs.Block.{plain_edition}
 use Rattle.word_faults.proofs.faults.is_edition.Statement.{statement}
 use Rattle.word_faults.proofs.faults.is_edition.Tie as tie
 
 returns : tie.Need-returns
-returns c = rw (eq-eqb c.before.args.edition plainEdition c.if1.true) refl
+returns c = rw (eq-eqb c.before.args.edition plain_edition c.if1.true) refl
 
 returns-2 : tie.Need-returns-2
-returns-2 c = rw (ne_eqb c.before.args.edition plainEdition c.if1.false) refl
+returns-2 c = rw (ne_eqb c.before.args.edition plain_edition c.if1.false) refl
 
 -- ---- the needs
 

@@ -5,30 +5,30 @@ use mathlib.Core.List.{[]}
 use mathlib.Core.Path.{◌≡◌, refl, sym, ◌∙◌}
 use Prim.Native.Nat.{suc}
 use native.Mathlib.Omega.{arith}
-use Rattle.rounding.specs.Limits.{readingsMax}
-use Rattle.block.specs.Fields.{readingSpare}
-use Rattle.block.proofs.Steps.{reading-form}
+use Rattle.rounding.specs.Limits.{readings_max}
+use Rattle.block.specs.Fields.{reading_spare}
+use Rattle.block.proofs.Steps.{reading_form}
 use Rattle.word_faults.proofs.faults.reading_fault.Statement.{statement}
 use Rattle.word_faults.proofs.faults.reading_fault.Tie as tie
 
 returns : tie.Need-returns
 returns c =
     let a = c.before.before.args in
-    sym (reading-form a.count a.word [] (ne_eqb (readingSpare a.word) 0 (λ z. c.if1.true (c.before.reading-spare.ensures ∙ z))))
+    sym (reading_form a.count a.word [] (ne_eqb (reading_spare a.word) 0 (λ z. c.if1.true (c.before.reading_spare_lem.ensures ∙ z))))
 
 -- its form is right
-right : (c : tie.Else1) → readingSpare c.before.before.args.word ≡ 0
-right c = sym c.before.reading-spare.ensures ∙ c.if1.false
+right : (c : tie.Else1) → reading_spare c.before.before.args.word ≡ 0
+right c = sym c.before.reading_spare_lem.ensures ∙ c.if1.false
 
 returns-2 : tie.Need-returns-2
 returns-2 c =
     let a = c.before.before.before.args in
-    rw (eq-eqb (readingSpare a.word) 0 (right c.before), lt-ltb readingsMax (suc a.count) (omega (arith, c.if2.true))) refl
+    rw (eq-eqb (reading_spare a.word) 0 (right c.before), lt-ltb readings_max (suc a.count) (omega (arith, c.if2.true))) refl
 
 returns-3 : tie.Need-returns-3
 returns-3 c =
     let a = c.before.before.before.args in
-    rw (eq-eqb (readingSpare a.word) 0 (right c.before), le-ltb readingsMax (suc a.count) (omega (arith, c.if2.false))) refl
+    rw (eq-eqb (reading_spare a.word) 0 (right c.before), le-ltb readings_max (suc a.count) (omega (arith, c.if2.false))) refl
 
 -- ---- the needs
 

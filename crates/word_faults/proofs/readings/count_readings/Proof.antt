@@ -1,6 +1,6 @@
 -- `word_faults::readings::count_readings` meets its contract.
 use borrow.Author.Rules.{rules}
-use borrow.Author.Tests.{eq-eqb, ltb-false, not-true, not-false}
+use borrow.Author.Tests.{eq-eqb, ltb_false, not-true, not-false}
 use mathlib.Core.Bool.{true, false}
 use mathlib.Core.List.{List, [], ◌∷◌}
 use mathlib.Core.Option.{none, some, some-ne-none}
@@ -9,15 +9,15 @@ use Prim.Native.Nat.{ℕ, suc, ◌+◌, ◌-◌, ◌≤◌}
 use native.Mathlib.Nat.{add-zero, zero-add}
 use native.Mathlib.Omega.{arith}
 use lib.ListN.{length, get_or, drop}
-use Rattle.rounding.specs.Limits.{readingsMax}
+use Rattle.rounding.specs.Limits.{readings_max}
 use Rattle.scans.specs.RefusalTable.{Cause, first}
 use Rattle.scans.proofs.Causes.{first_found, first-later, quiet}
 use Rattle.knot.specs.Machine.{refusal}
 use Rattle.knot.proofs.Numbers.{passed, failed}
 use Rattle.block.specs.Bytes.{words}
-use Rattle.block.specs.Block.{readingsEdition}
-use Rattle.block.specs.Reading.{isReading, leadingReadings, readingCauses, readingWords}
-use Rattle.block.proofs.Steps.{other-edition, no-reading, one-reading}
+use Rattle.block.specs.Block.{readings_edition}
+use Rattle.block.specs.Reading.{is_reading, leading_readings, reading_causes, reading_words}
+use Rattle.block.proofs.Steps.{other-edition, no_reading, one-reading}
 use Rattle.word_faults.specs.Machine.{Counts}
 use Rattle.word_faults.specs.declared.readings.Counted.{Counted}
 use Rattle.word_faults.proofs.readings.count_readings.Statement.{statement}
@@ -25,49 +25,49 @@ use Rattle.word_faults.proofs.readings.count_readings.Tie as tie
 
 -- so many readings are counted: what the definition gives of all is what it gives from here
 record Come (ws : List ℕ) (from count : ℕ) : Type 0 where
-  few : count ≤ readingsMax
-  faults : first (readingCauses 0 (leadingReadings (drop from ws))) ≡ first (readingCauses count (leadingReadings (drop (from + count) ws)))
-  long : length (leadingReadings (drop from ws)) ≡ count + length (leadingReadings (drop (from + count) ws))
+  few : count ≤ readings_max
+  faults : first (reading_causes 0 (leading_readings (drop from ws))) ≡ first (reading_causes count (leading_readings (drop (from + count) ws)))
+  long : length (leading_readings (drop from ws)) ≡ count + length (leading_readings (drop (from + count) ws))
 
 none_yet : (ws : List ℕ) (from : ℕ) → Come ws from 0
 none_yet ws from =
     let here : from ≡ from + 0 = omega arith in
     record {
       few = omega arith;
-      faults = ap (λ a. first (readingCauses 0 (leadingReadings (drop a ws)))) here;
-      long = ap (λ a. length (leadingReadings (drop a ws))) here ∙ sym (zero-add (length (leadingReadings (drop (from + 0) ws))));
+      faults = ap (λ a. first (reading_causes 0 (leading_readings (drop a ws)))) here;
+      long = ap (λ a. length (leading_readings (drop a ws))) here ∙ sym (zero-add (length (leading_readings (drop (from + 0) ws))));
     }
 
 module _ (ws : List ℕ) (from count : ℕ) (come : Come ws from count) where
   -- the next word is none: these are all
-  all-counted : isReading (get_or ws (from + count) 0) ≡ false → Counts (record { count = count; refusal = 0 }) (leadingReadings (drop from ws))
+  all-counted : is_reading (get_or ws (from + count) 0) ≡ false → Counts (record { count = count; refusal = 0 }) (leading_readings (drop from ws))
   all-counted is =
-      let last : leadingReadings (drop (from + count) ws) ≡ [] = no-reading ws (from + count) is in
+      let last : leading_readings (drop (from + count) ws) ≡ [] = no_reading ws (from + count) is in
       record {
-        number = record { known = omega arith; is = sym (come.faults ∙ ap (λ l. first (readingCauses count l)) last) };
+        number = record { known = omega arith; is = sym (come.faults ∙ ap (λ l. first (reading_causes count l)) last) };
         count = λ quiet. sym (come.long ∙ ap (λ l. count + length l) last ∙ add-zero count);
         few = come.few;
       }
 
   -- it is a reading
-  module _ (is : isReading (get_or ws (from + count) 0) ≡ true) where
+  module _ (is : is_reading (get_or ws (from + count) 0) ≡ true) where
     abbrev rest : List ℕ
-    rest = leadingReadings (drop (suc (from + count)) ws)
+    rest = leading_readings (drop (suc (from + count)) ws)
 
     -- its own causes
     abbrev these : List Cause
-    these = readingCauses count (get_or ws (from + count) 0 ∷ [])
+    these = reading_causes count (get_or ws (from + count) 0 ∷ [])
 
-    next : leadingReadings (drop (from + count) ws) ≡ get_or ws (from + count) 0 ∷ rest
+    next : leading_readings (drop (from + count) ws) ≡ get_or ws (from + count) 0 ∷ rest
     next = one-reading ws (from + count) is
 
     -- the first fault is its
-    wrong : {n : ℕ} → first these ≡ some n → first (readingCauses 0 (leadingReadings (drop from ws))) ≡ some n
-    wrong h = come.faults ∙ ap (λ l. first (readingCauses count l)) next ∙ first_found these (readingCauses (suc count) rest) h
+    wrong : {n : ℕ} → first these ≡ some n → first (reading_causes 0 (leading_readings (drop from ws))) ≡ some n
+    wrong h = come.faults ∙ ap (λ l. first (reading_causes count l)) next ∙ first_found these (reading_causes (suc count) rest) h
 
     -- or it has none
-    within : first these ≡ none → suc count ≤ readingsMax
-    within h = ltb-false readingsMax (suc count) (quiet these h).1.0
+    within : first these ≡ none → suc count ≤ readings_max
+    within h = ltb_false readings_max (suc count) (quiet these h).1.0
 
     right : first these ≡ none → Come ws from (count + 1)
     right h =
@@ -75,10 +75,10 @@ module _ (ws : List ℕ) (from count : ℕ) (come : Come ws from count) where
         let there : suc (from + count) ≡ from + (count + 1) = omega arith in
         record {
           few = omega (arith, within h);
-          faults = come.faults ∙ ap (λ l. first (readingCauses count l)) next ∙ first-later these (readingCauses (suc count) rest) h ∙
-              ap₂ (λ n a. first (readingCauses n (leadingReadings (drop a ws)))) one there;
+          faults = come.faults ∙ ap (λ l. first (reading_causes count l)) next ∙ first-later these (reading_causes (suc count) rest) h ∙
+              ap₂ (λ n a. first (reading_causes n (leading_readings (drop a ws)))) one there;
           long = come.long ∙ ap (λ l. count + length l) next ∙ one_more count (length rest) ∙
-              ap (λ a. count + 1 + length (leadingReadings (drop a ws))) there;
+              ap (λ a. count + 1 + length (leading_readings (drop a ws))) there;
         }
       where
         one_more : (a b : ℕ) → a + suc b ≡ a + 1 + b
@@ -88,7 +88,7 @@ abbrev invariant-words : tie.invariant-words
 invariant-words block edition from count₀ count = Come (words block) from count
 
 abbrev decreases-words : tie.decreases-words
-decreases-words block edition from count₀ count = readingsMax + 1 - count
+decreases-words block edition from count₀ count = readings_max + 1 - count
 
 abbrev At-words : Type 0
 At-words = tie.At-words invariant-words decreases-words
@@ -107,15 +107,15 @@ abbrev the-words : At-words → List ℕ
 the-words w = words w.before.before.before.args.block.now
 
 of-edition : (w : At-words) → (r : Counted) → let a = w.before.before.before.args in
-    Counts r (leadingReadings (drop a.from (the-words w))) → Counts r (readingWords a.edition (drop a.from (the-words w)))
-of-edition w r counts = rw (eq-eqb w.before.before.before.args.edition readingsEdition w.before.if1.false) counts
+    Counts r (leading_readings (drop a.from (the-words w))) → Counts r (reading_words a.edition (drop a.from (the-words w)))
+of-edition w r counts = rw (eq-eqb w.before.before.before.args.edition readings_edition w.before.if1.false) counts
 
 returns-2 : tie.Need-returns-2 invariant-words decreases-words
 returns-2 c =
     let l = c.before.before in
     let w = l.before in
     of-edition w _ (all-counted (the-words w) w.before.before.before.args.from w.words.count w.words.invariant
-    (sym (ap isReading l.load.ensures.0) ∙ sym c.before.is-reading.ensures ∙ not-true _ c.if2.true))
+    (sym (ap is_reading l.load.ensures.0) ∙ sym c.before.is-reading.ensures ∙ not-true _ c.if2.true))
 
 -- a reading stands there, and what is found of it
 module _ (c : tie.After-number invariant-words decreases-words) where
@@ -125,21 +125,21 @@ module _ (c : tie.After-number invariant-words decreases-words) where
   abbrev place : ℕ
   place = at.before.before.before.args.from + at.words.count
 
-  is_one : isReading (get_or (the-words at) place 0) ≡ true
+  is_one : is_reading (get_or (the-words at) place 0) ≡ true
   is_one =
       let e = c.before.before in
-      sym (ap isReading e.before.before.load.ensures.0) ∙ sym e.before.is-reading.ensures ∙ not-false _ e.if2.false
+      sym (ap is_reading e.before.before.load.ensures.0) ∙ sym e.before.is-reading.ensures ∙ not-false _ e.if2.false
 
-  found : first (readingCauses at.words.count (get_or (the-words at) place 0 ∷ [])) ≡ refusal c.before.reading-fault.result
+  found : first (reading_causes at.words.count (get_or (the-words at) place 0 ∷ [])) ≡ refusal c.before.reading-fault.result
   found =
       sym (c.before.reading-fault.ensures ∙
-      ap (λ u. first (readingCauses at.words.count (u ∷ []))) c.before.before.before.before.load.ensures.0)
+      ap (λ u. first (reading_causes at.words.count (u ∷ []))) c.before.before.before.before.load.ensures.0)
 
   abbrev from : ℕ
   from = at.before.before.before.args.from
 
   refused : (c.number.result ≡ 0 → ⊥) → Counts (record { count = at.words.count; refusal = c.number.result })
-      (leadingReadings (drop from (the-words at)))
+      (leading_readings (drop from (the-words at)))
   refused d =
       let e = failed c.number.result c.number.ensures d in
       let all = wrong (the-words at) from at.words.count at.words.inv is_one (found ∙ e) in
@@ -149,10 +149,10 @@ module _ (c : tie.After-number invariant-words decreases-words) where
         few = at.words.inv.few;
       }
 
-  quiet_one : c.number.result ≡ 0 → first (readingCauses at.words.count (get_or (the-words at) place 0 ∷ [])) ≡ none
+  quiet_one : c.number.result ≡ 0 → first (reading_causes at.words.count (get_or (the-words at) place 0 ∷ [])) ≡ none
   quiet_one z = found ∙ passed c.number.ensures z
 
-  below : c.number.result ≡ 0 → suc at.words.count ≤ readingsMax
+  below : c.number.result ≡ 0 → suc at.words.count ≤ readings_max
   below z = within (the-words at) from at.words.count at.words.inv is_one (quiet_one z)
 
 returns-3 : tie.Need-returns-3 invariant-words decreases-words

@@ -9,7 +9,7 @@ use lib.Seq.{take-suc, take-suc-set, take-length}
 use mir.Syntax.{w32}
 use mir.Val.{to_z, of_z}
 use mir.Facts.{to_z-of_z}
-use Rattle.scans.specs.Scan.{scanOf}
+use Rattle.scans.specs.Scan.{scan_of}
 use Rattle.knot.proofs.held.Knot.of.Statement.{statement}
 use Rattle.knot.proofs.held.Knot.of.Tie as tie
 
@@ -75,7 +75,7 @@ returns c =
     let whole : length l.before.args.list.now - 1 + 1 ≡ l.loop.j = omega arith in
     record {
       graded = record { room = l.loop.invariant.1; grade = omega arith };
-      is = ap (scanOf l.before.args.position) (rw (whole, l.loop.invariant.2, all) (take-length l.before.args.list.now));
+      is = ap (scan_of l.before.args.position) (rw (whole, l.loop.invariant.2, all) (take-length l.before.args.list.now));
     }
 
 pub of_spec : {M : Type 1} → statement M

@@ -33,10 +33,10 @@ use denote.Triple.Spec.{Meets, triple_of}
 use denote.Triple.Statement.{Contract, Triple}
 use denote.Triple.Table.{entered, cited}
 use denote.Triple.Walked.{says, Stays, walk_of, Walks, ends_at, walked, walk_Meets}
-use Rattle.readings.specs.Machine.{readingShown, shows}
+use Rattle.readings.specs.Machine.{reading_shown, shows}
 use Rattle.readings.specs.declared.finding.Shown.{Shown}
 use Rattle.readings.specs.declared.view.View.{View}
-use Rattle.readings.proofs.Types.{B, D, L, OwnV, Typed, val, view-stays, number-stays, view-goes, number-goes, view-typed, view-twice}
+use Rattle.readings.proofs.Types.{B, D, L, OwnV, Typed, val, view_stays, number_stays, view_goes, number_goes, view_typed, view_twice}
 use Rattle.readings.proofs.Walks.{number, asks, copied, freed, calls}
 use Rattle.readings.specs.contracts.finding.Shown as S
 use Rattle.readings.proofs.finding.Shown.TheLaws as S'
@@ -51,7 +51,7 @@ use Rattle.readings.specs.contracts.view.View.at.Key.{name as #at}
 use Rattle.readings.proofs.view.View.at.Statement as stated
 
 abbrev stayed : Stays (at.ended).signature.params (at.ended).kept
-stayed = (view-stays, (number-stays, tt))
+stayed = (view_stays, (number_stays, tt))
 
 module _ {M : Type 1} {𝓤 : Ura M} (𝓛 : Logic 𝓤) (mem : Memory → SProp 𝓤) (run : Routine → Fun 𝓤) where
   -- the contract that the proof cites
@@ -94,7 +94,7 @@ module _ {M : Type 1} {𝓤 : Ura M} (𝓛 : Logic 𝓤) (mem : Memory → SProp
     apart : ent 𝓤 Entry (sep 𝓤 ((ShownAt 𝓛 mem run).pre to) (sem 𝓛 Own))
     apart =
         qed 𝓛 ((‵ (flft κ q) ⊛ ‵ ftrue) ∷ ‵ (owns (B (κ, tt) ∷ u32 ∷ []) (d, (i, tt)) vals) ∷ []) ∵
-        move ! (1 ∷ []) $ fsplit ! $ move ! (1 ∷ []) $ drop ! $ use1 𝓛 (‵ Own ⊛ ‵ Own) (view-twice 𝓛 (κ, tt) d) $ split ! $
+        move ! (1 ∷ []) $ fsplit ! $ move ! (1 ∷ []) $ drop ! $ use1 𝓛 (‵ Own ⊛ ‵ Own) (view_twice 𝓛 (κ, tt) d) $ split ! $
         number ! i fits $ move ! (1 ∷ 0 ∷ []) $
         use2 𝓛 (‵ (OwnV (κ, tt) d')) (own_put 𝓛 (D (κ, tt)) (L (κ, tt)) 4 ((D (κ, tt)).to d) i mach) $
         use1 𝓛 (given (T'.lowered d' ∷ [] ≡ T'.lowered d' ∷ []) (‵ (all_own (D (κ, tt)).parts (L (κ, tt)) ((D (κ, tt)).to d'))))
@@ -106,7 +106,7 @@ module _ {M : Type 1} {𝓤 : Ura M} (𝓛 : Logic 𝓤) (mem : Memory → SProp
       abbrev u : Val
       u = EL.val S.the_type S'.the_laws r
 
-      exits : readingShown r ≡ get_elem? (shows d) i → ent 𝓤 (⋆ 𝓛 (‵ ((S.the_row).own_val r (u ∷ [])) ∷ (‵ (flft κ q) ⊛ ‵ ftrue) ∷ ‵ Own ∷ [])) (Post u)
+      exits : reading_shown r ≡ get_elem? (shows d) i → ent 𝓤 (⋆ 𝓛 (‵ ((S.the_row).own_val r (u ∷ [])) ∷ (‵ (flft κ q) ⊛ ‵ ftrue) ∷ ‵ Own ∷ [])) (Post u)
       exits e =
           qed 𝓛 (‵ ((S.the_row).own_val r (u ∷ [])) ∷ (‵ (flft κ q) ⊛ ‵ ftrue) ∷ ‵ Own ∷ []) ∵
           suffices ! _ (ends_at 𝓛 at.ended stayed clauses (((κ, tt), (q, tt), tt, (d, (i, tt)), vals), tt) u r (tt, (tt, tt)) (tt, (tt, tt))) $
@@ -129,7 +129,7 @@ module _ {M : Type 1} {𝓤 : Ura M} (𝓛 : Logic 𝓤) (mem : Memory → SProp
           (from ! (stop !)) (init ! 0 refl (tt, wt.1.1.1.1.0)) $
           move ! (14 ∷ []) $ use1 𝓛 (raw ((ShownAt 𝓛 mem run).pre to) ⊛ ‵ Own) apart $ split ! $
           -- [what the callee asks; what the view owns; _6; …; _5; …; _4; …; _3; …; _2; …; _1; …; room for _0; …]
-          calls 𝓛 shown-at.ended (shown-at.clauses 𝓛 mem run) fm known to (λ r. readingShown r ≡ get_elem? (shows d) i) (λ r ws. id⊢ 𝓤 _)
+          calls 𝓛 shown-at.ended (shown-at.clauses 𝓛 mem run) fm known to (λ r. reading_shown r ≡ get_elem? (shows d) i) (λ r ws. id⊢ 𝓤 _)
           (EL.val S.the_type S'.the_laws) (EL.tells S.the_type S'.the_laws) !
           (and_then ! (copied ! 8 refl) (and_then ! (copied ! 6 refl) (and_then ! (copied ! 4 refl)
           (and_then ! (copied ! 2 refl) (and_then ! (copied ! 10 refl) (no_more !)))))) (λ r e is.
@@ -143,11 +143,11 @@ module _ {M : Type 1} {𝓤 : Ura M} (𝓛 : Logic 𝓤) (mem : Memory → SProp
   walks C Λ fm known = walked 𝓛 at.ended stayed clauses (WpFn 𝓤 H C Λ code.function)
       (λ κs. (LL.vals (D κs) (L κs), (uint_vals w32, tt))) (λ κs. (LL.tells (D κs) (L κs), (uint_Tells w32, tt)))
       (λ κs qs bounds a g are. via 𝓤 _ (fst∗ 𝓤 _ (emp 𝓤))
-      (walk κs.0 qs.0 a.0 a.1.0 are.1.0.1 C Λ fm known (view-typed 𝓛 κs a.0 are.0)))
+      (walk κs.0 qs.0 a.0 a.1.0 are.1.0.1 C Λ fm known (view_typed 𝓛 κs a.0 are.0)))
 
   meets : (𝓣 : Tables 𝓤 H) → Triple 𝓤 (𝓣.C #shown-at) (ShownAt 𝓛 mem run)
       → Meets 𝓛 at.signature (WpFn 𝓤 H 𝓣.C 𝓣.Λ code.function) (at.spec 𝓛 mem run)
-  meets 𝓣 known = walk_Meets 𝓛 at.ended stayed (view-goes 𝓛, (number-goes 𝓛, tt)) clauses (WpFn 𝓤 H 𝓣.C 𝓣.Λ code.function)
+  meets 𝓣 known = walk_Meets 𝓛 at.ended stayed (view_goes 𝓛, (number_goes 𝓛, tt)) clauses (WpFn 𝓤 H 𝓣.C 𝓣.Λ code.function)
       (WpFn-mono 𝓤 H 𝓛.laws 𝓣 code.function) (walks 𝓣.C 𝓣.Λ (fm_of 𝓤 H 𝓛.laws 𝓣) known)
 
 pub at-spec : {M : Type 1} → stated.statement M

@@ -24,7 +24,7 @@ use denote.Triple.Spec.{Meets, triple_of}
 use denote.Triple.Table.{entered}
 use denote.Triple.Walked.{says, Stays, walk_of, Walks, ends_at, walked, walk_Meets}
 use Rattle.readings.specs.declared.view.View.{View}
-use Rattle.readings.proofs.Types.{B, D, L, Typed, view-stays, view-goes, view-typed}
+use Rattle.readings.proofs.Types.{B, D, L, Typed, view_stays, view_goes, view_typed}
 use Rattle.readings.proofs.Strided.{strided-length}
 use Rattle.readings.proofs.Walks.{number, freed}
 use Rattle.readings.proofs.view.View.TheLaws as T'
@@ -34,7 +34,7 @@ use Rattle.readings.specs.contracts.view.View.count.Key.{name as #count}
 use Rattle.readings.proofs.view.View.count.Statement as stated
 
 abbrev stayed : Stays (count.ended).signature.params (count.ended).kept
-stayed = (view-stays, tt)
+stayed = (view_stays, tt)
 
 module _ {M : Type 1} {𝓤 : Ura M} (𝓛 : Logic 𝓤) (mem : Memory → SProp 𝓤) (run : Routine → Fun 𝓤) where
   open 𝓛 use {H}
@@ -71,10 +71,10 @@ module _ {M : Type 1} {𝓤 : Ura M} (𝓛 : Logic 𝓤) (mem : Memory → SProp
   walks : (C : Calls 𝓤 H) (Λ : Loops 𝓤 H) → Walks 𝓛 count.ended stayed (WpFn 𝓤 H C Λ code.function) clauses
   walks C Λ = walked 𝓛 count.ended stayed clauses (WpFn 𝓤 H C Λ code.function)
       (λ κs. (LL.vals (D κs) (L κs), tt)) (λ κs. (LL.tells (D κs) (L κs), tt))
-      (λ κs qs bounds a g are. via 𝓤 _ (fst∗ 𝓤 _ (emp 𝓤)) (walk κs.0 qs.0 a.0 (view-typed 𝓛 κs a.0 are.0) C Λ))
+      (λ κs qs bounds a g are. via 𝓤 _ (fst∗ 𝓤 _ (emp 𝓤)) (walk κs.0 qs.0 a.0 (view_typed 𝓛 κs a.0 are.0) C Λ))
 
   meets : (𝓣 : Tables 𝓤 H) → Meets 𝓛 count.signature (WpFn 𝓤 H 𝓣.C 𝓣.Λ code.function) (count.spec 𝓛 mem run)
-  meets 𝓣 = walk_Meets 𝓛 count.ended stayed (view-goes 𝓛, tt) clauses (WpFn 𝓤 H 𝓣.C 𝓣.Λ code.function)
+  meets 𝓣 = walk_Meets 𝓛 count.ended stayed (view_goes 𝓛, tt) clauses (WpFn 𝓤 H 𝓣.C 𝓣.Λ code.function)
       (WpFn-mono 𝓤 H 𝓛.laws 𝓣 code.function) (walks 𝓣.C 𝓣.Λ)
 
 pub count_spec : {M : Type 1} → stated.statement M

@@ -36,7 +36,7 @@ use denote.Triple.Walked.{says, Stays, walk_of, Walks, ends_at, walked, walk_Mee
 use Rattle.readings.specs.Machine.{Selects}
 use Rattle.readings.specs.declared.finding.Selection.{Selection}
 use Rattle.readings.specs.declared.view.View.{View}
-use Rattle.readings.proofs.Types.{D, L, Bytes, val, OwnS, slice-stays, number-stays, slice-goes, number-goes, slice-typed, slice-twice}
+use Rattle.readings.proofs.Types.{D, L, Bytes, val, OwnS, slice_stays, number_stays, slice_goes, number_goes, slice_typed, slice_twice}
 use Rattle.readings.proofs.Walks.{number, asks, copied, freed, calls}
 use Rattle.readings.specs.contracts.finding.Selection as F
 use Rattle.readings.proofs.finding.Selection.TheLaws as F'
@@ -51,7 +51,7 @@ use Rattle.readings.specs.contracts.view.View.of.Key.{name as #of}
 use Rattle.readings.proofs.view.View.of.Statement as stated
 
 abbrev stayed : Stays (of.ended).signature.params (of.ended).kept
-stayed = (slice-stays, (number-stays, (number-stays, tt)))
+stayed = (slice_stays, (number_stays, (number_stays, tt)))
 
 module _ {M : Type 1} {𝓤 : Ura M} (𝓛 : Logic 𝓤) (mem : Memory → SProp 𝓤) (run : Routine → Fun 𝓤) where
   -- the contract that the proof cites
@@ -87,7 +87,7 @@ module _ {M : Type 1} {𝓤 : Ura M} (𝓛 : Logic 𝓤) (mem : Memory → SProp
     goes : ent 𝓤 Entry (sep 𝓤 ((Select 𝓛 mem run).pre to) (sem 𝓛 Own))
     goes =
         qed 𝓛 ((‵ (flft κ q) ⊛ ‵ ftrue) ∷ ‵ (owns (Bytes (κ, tt) ∷ u32 ∷ u32 ∷ []) (s, (k, (n, tt))) vals) ∷ []) ∵
-        move ! (1 ∷ []) $ fsplit ! $ use1 𝓛 (‵ Own ⊛ ‵ Own) (slice-twice 𝓛 (κ, tt) s) $ split ! $ move ! (0 ∷ 2 ∷ []) $ fjoin ! $
+        move ! (1 ∷ []) $ fsplit ! $ use1 𝓛 (‵ Own ⊛ ‵ Own) (slice_twice 𝓛 (κ, tt) s) $ split ! $ move ! (0 ∷ 2 ∷ []) $ fjoin ! $
         -- [what the three own; what s owns; the token]
         move ! (2 ∷ 0 ∷ []) $ asks ! $ done !
 
@@ -100,7 +100,7 @@ module _ {M : Type 1} {𝓤 : Ura M} (𝓛 : Logic 𝓤) (mem : Memory → SProp
           qed 𝓛 ((‵ (flft κ q) ⊛ ‵ ftrue) ∷ ‵ Own ∷ []) ∵
           suffices ! _ (ends_at 𝓛 of.ended stayed clauses (((κ, tt), (q, tt), tt, (s, (k, (n, tt))), vals), tt) (T'.lowered made) made
           (tt, (tt, (tt, tt))) (tt, (tt, (tt, tt)))) $ says ! (record { number = e.number; readings = e.readings }) $
-          frame ! $ use1 𝓛 (‵ Own ⊛ ‵ Own) (slice-twice 𝓛 (κ, tt) s) $ split ! $
+          frame ! $ use1 𝓛 (‵ Own ⊛ ‵ Own) (slice_twice 𝓛 (κ, tt) s) $ split ! $
           nothing ! $ number ! n n-fits $ fjoin ! $ number ! k k-fits $ fjoin ! $ move ! (1 ∷ 0 ∷ []) $ fjoin ! $ frame ! $
           -- [what s owns]: with the facts of the four numbers it is what the view owns
           nothing ! $ number ! r.refusal wt.1.1.0.fits $ fjoin ! $ number ! n n-fits $ fjoin ! $
@@ -139,11 +139,11 @@ module _ {M : Type 1} {𝓤 : Ura M} (𝓛 : Logic 𝓤) (mem : Memory → SProp
   walks C Λ fm known = walked 𝓛 of.ended stayed clauses (WpFn 𝓤 H C Λ code.function)
       (λ κs. (shr_slice_vals, (uint_vals w32, (uint_vals w32, tt)))) (λ κs. (shr_slice_Tells (named 0) κs.0 u8, (uint_Tells w32, (uint_Tells w32, tt))))
       (λ κs qs bounds a g are. via 𝓤 _ (fst∗ 𝓤 _ (emp 𝓤))
-      (walk κs.0 qs.0 a.0 a.1.0 a.1.1.0 are.1.0.1 are.1.1.0.1 C Λ fm known (slice-typed 𝓛 κs a.0 are.0)))
+      (walk κs.0 qs.0 a.0 a.1.0 a.1.1.0 are.1.0.1 are.1.1.0.1 C Λ fm known (slice_typed 𝓛 κs a.0 are.0)))
 
   meets : (𝓣 : Tables 𝓤 H) → Triple 𝓤 (𝓣.C #select) (Select 𝓛 mem run)
       → Meets 𝓛 of.signature (WpFn 𝓤 H 𝓣.C 𝓣.Λ code.function) (of.spec 𝓛 mem run)
-  meets 𝓣 known = walk_Meets 𝓛 of.ended stayed (slice-goes 𝓛, (number-goes 𝓛, (number-goes 𝓛, tt))) clauses
+  meets 𝓣 known = walk_Meets 𝓛 of.ended stayed (slice_goes 𝓛, (number_goes 𝓛, (number_goes 𝓛, tt))) clauses
       (WpFn 𝓤 H 𝓣.C 𝓣.Λ code.function) (WpFn-mono 𝓤 H 𝓛.laws 𝓣 code.function) (walks 𝓣.C 𝓣.Λ (fm_of 𝓤 H 𝓛.laws 𝓣) known)
 
 pub of_spec : {M : Type 1} → stated.statement M

@@ -24,7 +24,7 @@ use denote.Triple.Spec.{Meets, triple_of}
 use denote.Triple.Table.{entered}
 use denote.Triple.Walked.{says, Stays, walk_of, Walks, ends_at, walked, walk_Meets}
 use Rattle.readings.specs.declared.view.View.{View}
-use Rattle.readings.proofs.Types.{B, D, L, Typed, view-stays, view-goes, view-typed}
+use Rattle.readings.proofs.Types.{B, D, L, Typed, view_stays, view_goes, view_typed}
 use Rattle.readings.proofs.Walks.{number, freed}
 use Rattle.readings.proofs.view.View.TheLaws as T'
 use Rattle.readings.specs.contracts.view.View.refusal as refusal
@@ -33,7 +33,7 @@ use Rattle.readings.specs.contracts.view.View.refusal.Key.{name as #refusal}
 use Rattle.readings.proofs.view.View.refusal.Statement as stated
 
 abbrev stayed : Stays (refusal.ended).signature.params (refusal.ended).kept
-stayed = (view-stays, tt)
+stayed = (view_stays, tt)
 
 module _ {M : Type 1} {𝓤 : Ura M} (𝓛 : Logic 𝓤) (mem : Memory → SProp 𝓤) (run : Routine → Fun 𝓤) where
   open 𝓛 use {H}
@@ -70,10 +70,10 @@ module _ {M : Type 1} {𝓤 : Ura M} (𝓛 : Logic 𝓤) (mem : Memory → SProp
   walks : (C : Calls 𝓤 H) (Λ : Loops 𝓤 H) → Walks 𝓛 refusal.ended stayed (WpFn 𝓤 H C Λ code.function) clauses
   walks C Λ = walked 𝓛 refusal.ended stayed clauses (WpFn 𝓤 H C Λ code.function)
       (λ κs. (LL.vals (D κs) (L κs), tt)) (λ κs. (LL.tells (D κs) (L κs), tt))
-      (λ κs qs bounds a g are. via 𝓤 _ (fst∗ 𝓤 _ (emp 𝓤)) (walk κs.0 qs.0 a.0 (view-typed 𝓛 κs a.0 are.0) C Λ))
+      (λ κs qs bounds a g are. via 𝓤 _ (fst∗ 𝓤 _ (emp 𝓤)) (walk κs.0 qs.0 a.0 (view_typed 𝓛 κs a.0 are.0) C Λ))
 
   meets : (𝓣 : Tables 𝓤 H) → Meets 𝓛 refusal.signature (WpFn 𝓤 H 𝓣.C 𝓣.Λ code.function) (refusal.spec 𝓛 mem run)
-  meets 𝓣 = walk_Meets 𝓛 refusal.ended stayed (view-goes 𝓛, tt) clauses (WpFn 𝓤 H 𝓣.C 𝓣.Λ code.function)
+  meets 𝓣 = walk_Meets 𝓛 refusal.ended stayed (view_goes 𝓛, tt) clauses (WpFn 𝓤 H 𝓣.C 𝓣.Λ code.function)
       (WpFn-mono 𝓤 H 𝓛.laws 𝓣 code.function) (walks 𝓣.C 𝓣.Λ)
 
 pub refusal-spec : {M : Type 1} → stated.statement M

@@ -6,18 +6,18 @@ use mathlib.Core.Path.{◌≡◌, refl, sym, ◌∙◌, ap}
 use Prim.Native.Nat.{◌+◌, ◌<◌}
 use native.Mathlib.Omega.{arith}
 use lib.ListN.{length-set}
-use Rattle.rounding.specs.Limits.{knotsMax}
-use Rattle.scans.specs.Scan.{scanOf}
+use Rattle.rounding.specs.Limits.{knots_max}
+use Rattle.scans.specs.Scan.{scan_of}
 use Rattle.scans.specs.RefusalTable.{first}
 use Rattle.knot.specs.Machine.{refusal}
-use Rattle.knot.proofs.Lists.{graded-stored}
+use Rattle.knot.proofs.Lists.{graded_stored}
 use Rattle.first_cause.specs.Machine.{Finds}
 use Rattle.calls.specs.Calls.{append, causes}
 use Rattle.calls.specs.Reason.{tested}
 use Rattle.reel.specs.Machine.{scans}
-use Rattle.reel.proofs.Scans.{before-graded, scans-appended}
+use Rattle.reel.proofs.Scans.{before-graded, scans_appended}
 use Rattle.reel.proofs.held.Promises.{refuses, accepts}
-use Rattle.reel.proofs.held.Found.{append-finds, append-room}
+use Rattle.reel.proofs.held.Found.{append_finds, append-room}
 use Rattle.reel.proofs.held.Reel.append.Statement.{statement}
 use Rattle.reel.proofs.held.Reel.append.Tie as tie
 
@@ -40,8 +40,8 @@ start t = t.before.before.before
 -- the causes, with the last knot, are the call's
 finds : (t : tie.After-append-cause) → let b = start t in
     Finds t.append-cause.result (causes (append b.args.position b.args.coefficients.now) (scans b.args.t1))
-    (tested (append b.args.position b.args.coefficients.now) (scans b.args.t1)) (scanOf b.args.position b.args.coefficients.now)
-finds t = let b = start t in append-finds b.args.t1 b.pre _ b.args.position b.args.coefficients.now _
+    (tested (append b.args.position b.args.coefficients.now) (scans b.args.t1)) (scan_of b.args.position b.args.coefficients.now)
+finds t = let b = start t in append_finds b.args.t1 b.pre _ b.args.position b.args.coefficients.now _
     t.before.before.before2.ensures t.append-cause.ensures
 
 enum-known-verdict : tie.Need-enum-known-verdict
@@ -65,7 +65,7 @@ module _ (c : tie.After-enum-told) where
   passed : let b = start c.before.before in first (causes (append b.args.position b.args.coefficients.now) (scans b.args.t1)) ≡ none
   passed = sym (finds c.before.before).verdict ∙ ap refusal c.enum_told.given.1
 
-  room : (start c.before.before).args.t1.count < knotsMax
+  room : (start c.before.before).args.t1.count < knots_max
   room = let b = start c.before.before in append-room b.args.t1 b.pre b.args.position b.args.coefficients.now passed
 
 mul-new : tie.Need-overflow-mul-new
@@ -85,9 +85,9 @@ returns-2 c =
     let r = b.args.t1 in
     let new = (finds t).knot (passed e) in
     accepts _ r _ b.pre (passed e) refl refl refl
-    (scans-appended r b.pre t.append-cause.result.knot (room e) ∙ ap (λ s. scans r ++ s ∷ []) new.is)
+    (scans_appended r b.pre t.append-cause.result.knot (room e) ∙ ap (λ s. scans r ++ s ∷ []) new.is)
     (length-set r.knots r.count _ ∙ b.pre.filled.room) (omega (arith, room e))
-    (graded-stored r.knots r.count (r.count + 1) t.append-cause.result.knot (omega (arith, room e, b.pre.filled.room)) new.graded
+    (graded_stored r.knots r.count (r.count + 1) t.append-cause.result.knot (omega (arith, room e, b.pre.filled.room)) new.graded
     (λ j h d. b.pre.filled.graded j (omega arith)))
 
 pub append-spec : {M : Type 1} → statement M

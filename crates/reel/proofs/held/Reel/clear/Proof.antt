@@ -2,7 +2,7 @@
 use mathlib.Core.Path.{refl}
 use native.Mathlib.Omega.{arith}
 use Rattle.calls.specs.Calls.{clear}
-use Rattle.reel.proofs.Scans.{scans-of}
+use Rattle.reel.proofs.Scans.{scans_of}
 use Rattle.reel.proofs.held.Promises.{accepts}
 use Rattle.reel.proofs.held.Reel.clear.Statement.{statement}
 use Rattle.reel.proofs.held.Reel.clear.Tie as tie
@@ -10,7 +10,7 @@ use Rattle.reel.proofs.held.Reel.clear.Tie as tie
 returns : tie.Need-returns
 returns c =
     let r = c.args.self in
-    accepts clear r _ c.requires refl refl refl refl (scans-of r.knots 0) c.requires.filled.room (omega arith) (λ k h. absurd (omega arith))
+    accepts clear r _ c.requires refl refl refl refl (scans_of r.knots 0) c.requires.filled.room (omega arith) (λ k h. absurd (omega arith))
 
 pub clear_spec : {M : Type 1} → statement M
 clear_spec = tie.close (tie.spec returns)

@@ -4,11 +4,11 @@ use mathlib.Core.Option.{none}
 use mathlib.Core.Path.{◌≡◌, sym, ◌∙◌, ap}
 use mir.Facts.{to_z-of_z}
 use Rattle.scans.specs.RefusalTable.{first}
-use Rattle.scans.specs.Order.{combinationCauses}
+use Rattle.scans.specs.Order.{combination_causes}
 use Rattle.knot.specs.Machine.{refusal}
 use Rattle.combination.specs.Machine.{SumsReels}
 use Rattle.reel.specs.Machine.{scans}
-use Rattle.reel.proofs.Scans.{scans-of}
+use Rattle.reel.proofs.Scans.{scans_of}
 use Rattle.reel.proofs.held.Promises.{sum-refuses, sum-accepts}
 use Rattle.reel.proofs.held.Reel.combine.Statement.{statement}
 use Rattle.reel.proofs.held.Reel.combine.Tie as tie
@@ -49,9 +49,9 @@ returns-2 c =
     let t = e.before.before in
     let b = start t in
     let found = sums t in
-    let quiet : first (combinationCauses b.args.alpha b.args.beta (scans b.args.self) (scans b.args.other)) ≡ none =
+    let quiet : first (combination_causes b.args.alpha b.args.beta (scans b.args.self) (scans b.args.other)) ≡ none =
     sym found.verdict ∙ ap refusal e.enum_told.given.1 in
-    sum-accepts _ _ b.args.self b.args.other b.pre.0 _ b.pre.1 quiet (scans-of _ _ ∙ found.are quiet) (found.filled quiet)
+    sum-accepts _ _ b.args.self b.args.other b.pre.0 _ b.pre.1 quiet (scans_of _ _ ∙ found.are quiet) (found.filled quiet)
 
 pub combine-spec : {M : Type 1} → statement M
 combine-spec =

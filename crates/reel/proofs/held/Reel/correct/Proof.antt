@@ -7,14 +7,14 @@ use native.Mathlib.Omega.{arith}
 use lib.ListN.{length-set, set}
 use Rattle.scans.specs.RefusalTable.{first}
 use Rattle.knot.specs.Machine.{refusal}
-use Rattle.knot.proofs.Lists.{graded-stored}
+use Rattle.knot.proofs.Lists.{graded_stored}
 use Rattle.first_cause.specs.Machine.{Finds}
 use Rattle.calls.specs.Calls.{correct, causes, corrected}
 use Rattle.calls.specs.Reason.{tested}
 use Rattle.reel.specs.Machine.{scans}
 use Rattle.reel.proofs.Scans.{scans-corrected}
 use Rattle.reel.proofs.held.Promises.{refuses, accepts}
-use Rattle.reel.proofs.held.Found.{correct-close, correct-finds, correct-there}
+use Rattle.reel.proofs.held.Found.{correct-close, correct_finds, correct-there}
 use Rattle.reel.proofs.held.Reel.correct.Statement.{statement}
 use Rattle.reel.proofs.held.Reel.correct.Tie as tie
 
@@ -73,7 +73,7 @@ finds : (t : tie.After-correct-cause) → let b = start t.before in
 finds t =
     let f = t.before in
     let b = start f in
-    correct-finds b.args.t1 b.pre b.args.k _ _ _ b.args.coefficients.now _ f.before.before.before.before.before.inside.ensures
+    correct_finds b.args.t1 b.pre b.args.k _ _ _ b.args.coefficients.now _ f.before.before.before.before.before.inside.ensures
     f.before.before.before.before2.ensures f.before.inside2.ensures t.correct-cause.ensures
 
 enum-known-verdict : tie.Need-enum-known-verdict
@@ -118,7 +118,7 @@ returns-2 c =
     (accepts _ r _ b.pre (passed e) refl refl refl
     (scans-corrected r b.pre k t.correct-cause.result.knot (there e) ∙ ap (λ s. set (scans r) k s) new.is)
     (length-set r.knots k _ ∙ b.pre.filled.room) b.pre.filled.count
-    (graded-stored r.knots k r.count t.correct-cause.result.knot (omega (arith, there e, b.pre.filled.room, b.pre.filled.count))
+    (graded_stored r.knots k r.count t.correct-cause.result.knot (omega (arith, there e, b.pre.filled.room, b.pre.filled.count))
     new.graded (λ j h d. b.pre.filled.graded j h)))
 
 pub correct-spec : {M : Type 1} → statement M

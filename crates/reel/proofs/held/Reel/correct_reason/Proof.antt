@@ -1,7 +1,7 @@
 -- `reel::held::Reel::correct_reason` meets its contract: the reason found, with the knots beside knot k, is the call's.
 use borrow.Author.Rules.{rules}
-use Rattle.calls.specs.Reason.{reasonFor}
-use Rattle.reel.proofs.held.Found.{correct-close, correct-finds}
+use Rattle.calls.specs.Reason.{reason_for}
+use Rattle.reel.proofs.held.Found.{correct-close, correct_finds}
 use Rattle.reel.proofs.held.Reel.correct_reason.Statement.{statement}
 use Rattle.reel.proofs.held.Reel.correct_reason.Tie as tie
 
@@ -46,11 +46,11 @@ correct-cause-requires c κs =
     c.before.before.before.before2.ensures c.before.inside2.ensures
 
 returns : tie.Need-returns
-unfolding reasonFor
+unfolding reason_for
 returns c =
     let f = c.before in
     let b = start f in
-    (correct-finds b.args.t1 b.pre b.args.k _ _ _ b.args.coefficients.now _ f.before.before.before.before.before.inside.ensures
+    (correct_finds b.args.t1 b.pre b.args.k _ _ _ b.args.coefficients.now _ f.before.before.before.before.before.inside.ensures
     f.before.before.before.before2.ensures f.before.inside2.ensures c.correct-cause.ensures).reason
 
 pub correct-reason-spec : {M : Type 1} → statement M

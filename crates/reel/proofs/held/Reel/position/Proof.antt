@@ -6,10 +6,10 @@ use native.Mathlib.Omega.{arith}
 use lib.ListN.{length}
 use mir.Syntax.{w64}
 use mir.Facts.{to_z_pos}
-use Rattle.rounding.specs.Limits.{positionMax}
+use Rattle.rounding.specs.Limits.{position_max}
 use Rattle.calls.specs.Calls.{number, position_of}
-use Rattle.reel.specs.Machine.{scans, knotAt}
-use Rattle.reel.proofs.Scans.{length-scans, at-scans}
+use Rattle.reel.specs.Machine.{scans, knot_at}
+use Rattle.reel.proofs.Scans.{length-scans, at_scans}
 use borrow.Author.Rules.{rules}
 use Rattle.reel.proofs.held.Reel.position.Statement.{statement}
 use Rattle.reel.proofs.held.Reel.position.Tie as tie
@@ -29,9 +29,9 @@ element-copy-out-knot c = search rules
 cast-t12 : tie.Need-overflow-cast-t12
 cast-t12 c = search rules
 
-at_most : (b : tie.Start) → b.args.k < b.args.t1.count → (knotAt b.args.t1 b.args.k).position ≤ positionMax
+at_most : (b : tie.Start) → b.args.k < b.args.t1.count → (knot_at b.args.t1 b.args.k).position ≤ position_max
 at_most b h =
-    rw (at-scans b.args.t1 b.requires b.args.k h) at (b.requires.standing.position b.args.k (omega (arith, length-scans b.args.t1 b.requires)))
+    rw (at_scans b.args.t1 b.requires b.args.k h) at (b.requires.standing.position b.args.k (omega (arith, length-scans b.args.t1 b.requires)))
 
 returns-2 : tie.Need-returns-2
 unfolding position_of
@@ -39,9 +39,9 @@ returns-2 c =
     let b = c.before.before.before in
     rw (
       lt-leb (length (scans b.args.t1)) b.args.k (omega (arith, length-scans b.args.t1 b.requires)),
-      at-scans b.args.t1 b.requires b.args.k (omega arith),
+      at_scans b.args.t1 b.requires b.args.k (omega arith),
     )
-    (ap number (to_z_pos w64 {n = (knotAt b.args.t1 b.args.k).position} (omega (arith, at_most b (omega arith)))))
+    (ap number (to_z_pos w64 {n = (knot_at b.args.t1 b.args.k).position} (omega (arith, at_most b (omega arith)))))
 
 pub position-spec : {M : Type 1} → statement M
 position-spec = tie.close (tie.spec returns mul-knot element-copy-out-knot cast-t12 returns-2)

@@ -5,16 +5,17 @@ use mathlib.Core.Option.{none}
 use mathlib.Core.Path.{◌≡◌, refl, sym, ◌∙◌, ap}
 use native.Mathlib.Omega.{arith}
 use lib.ListN.{length}
-use Rattle.integer.proofs.Within.{result-is}
+use Rattle.integer.proofs.Within.{result_is}
 use Rattle.scans.specs.RefusalTable.{first}
 use Rattle.knot.specs.Machine.{refusal}
-use Rattle.scans.specs.Queries.{totalOver}
-use Rattle.calls.specs.Calls.{total as Calls·total, causes}
+use Rattle.scans.specs.Queries.{total_over}
+use Rattle.calls.specs.Calls
+use Rattle.calls.specs.Calls.{causes}
 use Rattle.reel.specs.Machine.{scans}
-use Rattle.reel.proofs.Scans.{scans-of, length-scans}
-use Rattle.scans.proofs.Order.{in-range}
+use Rattle.reel.proofs.Scans.{scans_of, length-scans}
+use Rattle.scans.proofs.Order.{in_range}
 use Rattle.reel.proofs.held.Promises.{refuses, answers}
-use Rattle.reel.proofs.held.Found.{range-causes, chained}
+use Rattle.reel.proofs.held.Found.{range_causes_lem, chained}
 use Rattle.reel.proofs.held.Reel.total.Statement.{statement}
 use Rattle.reel.proofs.held.Reel.total.Tie as tie
 
@@ -26,8 +27,8 @@ start t = t.before
 
 -- the causes are the call's
 verdict-is : (t : tie.After-range-cause) → let b = start t in
-    refusal t.range-cause.result ≡ first (causes (Calls·total b.args.i b.args.j) (scans b.args.self))
-verdict-is t = let b = start t in t.range-cause.ensures ∙ range-causes b.args.self b.pre b.args.i b.args.j
+    refusal t.range-cause.result ≡ first (causes (Calls.total b.args.i b.args.j) (scans b.args.self))
+verdict-is t = let b = start t in t.range-cause.ensures ∙ range_causes_lem b.args.self b.pre b.args.i b.args.j
 
 enum-known-cause : tie.Need-enum-known-cause
 enum-known-cause c = search rules
@@ -45,23 +46,23 @@ returns c =
 enum_told : tie.Need-enum-told
 enum_told c = search rules
 
-passed : (c : tie.After-enum-told) → let b = start c.before.before in first (causes (Calls·total b.args.i b.args.j) (scans b.args.self)) ≡ none
+passed : (c : tie.After-enum-told) → let b = start c.before.before in first (causes (Calls.total b.args.i b.args.j) (scans b.args.self)) ≡ none
 passed c = sym (verdict-is c.before.before) ∙ ap refusal c.enum_told.given.1
 
 total-requires : tie.Need-total-requires
 total-requires c κs =
     let b = start c.before.before.before in
     let r = b.args.self in
-    let h = in-range (length (scans r)) b.args.i b.args.j (passed c.before) in
+    let h = in_range (length (scans r)) b.args.i b.args.j (passed c.before) in
     (chained r b.pre, h.order, omega (arith, h.last, length-scans r b.pre))
 
 returns-2 : tie.Need-returns-2
 returns-2 c =
     let b = start c.before.before.before.before in
     let r = b.args.self in
-    answers (Calls·total b.args.i b.args.j) r _ (totalOver (scans r) b.args.i b.args.j) [] b.pre (passed c.before.before) refl
-    (result-is c.total.result c.total.type-inv ∙ c.total.ensures ∙
-    ap (λ s. totalOver s b.args.i b.args.j) (sym (scans-of r.knots r.count))) refl refl
+    answers (Calls.total b.args.i b.args.j) r _ (total_over (scans r) b.args.i b.args.j) [] b.pre (passed c.before.before) refl
+    (result_is c.total.result c.total.type-inv ∙ c.total.ensures ∙
+    ap (λ s. total_over s b.args.i b.args.j) (sym (scans_of r.knots r.count))) refl refl
 
 pub total-spec : {M : Type 1} → statement M
 total-spec = tie.close (tie.spec range-cause-requires enum-known-cause refused-requires returns enum_told total-requires returns-2)

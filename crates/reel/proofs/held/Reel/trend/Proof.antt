@@ -3,13 +3,14 @@ use borrow.Author.Rules.{rules}
 use mathlib.Core.List.{[]}
 use mathlib.Core.Option.{none}
 use mathlib.Core.Path.{◌≡◌, refl, sym, ◌∙◌, ap}
-use Rattle.integer.proofs.Within.{result-is}
+use Rattle.integer.proofs.Within.{result_is}
 use Rattle.scans.specs.RefusalTable.{first}
 use Rattle.knot.specs.Machine.{refusal}
-use Rattle.scans.specs.Queries.{trendAt}
-use Rattle.calls.specs.Calls.{trend as Calls·trend, causes}
+use Rattle.scans.specs.Queries.{trend_at}
+use Rattle.calls.specs.Calls
+use Rattle.calls.specs.Calls.{causes}
 use Rattle.reel.specs.Machine.{scans}
-use Rattle.reel.proofs.Scans.{scans-of}
+use Rattle.reel.proofs.Scans.{scans_of}
 use Rattle.reel.proofs.held.Promises.{refuses, answers}
 use Rattle.reel.proofs.held.Found.{reached}
 use Rattle.reel.proofs.held.Reel.trend.Statement.{statement}
@@ -35,7 +36,7 @@ returns c =
 enum_told : tie.Need-enum-told
 enum_told c = search rules
 
-passed : (c : tie.After-enum-told) → let b = c.before.before.before in first (causes (Calls·trend b.args.x) (scans b.args.self)) ≡ none
+passed : (c : tie.After-enum-told) → let b = c.before.before.before in first (causes (Calls.trend b.args.x) (scans b.args.self)) ≡ none
 passed c = sym c.before.before.query-verdict.ensures ∙ ap refusal c.enum_told.given.1
 
 trend-requires : tie.Need-trend-requires
@@ -46,8 +47,8 @@ returns-2 c =
     let e = c.before.before in
     let b = e.before.before.before in
     let r = b.args.self in
-    answers (Calls·trend b.args.x) r _ (trendAt (scans r) b.args.x) [] b.requires (passed e) refl
-    (result-is c.trend.result c.trend.type-inv ∙ c.trend.ensures ∙ ap (λ s. trendAt s b.args.x) (sym (scans-of r.knots r.count))) refl refl
+    answers (Calls.trend b.args.x) r _ (trend_at (scans r) b.args.x) [] b.requires (passed e) refl
+    (result_is c.trend.result c.trend.type-inv ∙ c.trend.ensures ∙ ap (λ s. trend_at s b.args.x) (sym (scans_of r.knots r.count))) refl refl
 
 pub trend-spec : {M : Type 1} → statement M
 trend-spec = tie.close (tie.spec query-verdict-requires enum-known-cause refused-requires returns enum_told trend-requires returns-2)

@@ -3,13 +3,14 @@ use borrow.Author.Rules.{rules}
 use mathlib.Core.List.{[]}
 use mathlib.Core.Option.{none}
 use mathlib.Core.Path.{◌≡◌, refl, sym, ◌∙◌, ap}
-use Rattle.integer.proofs.Within.{result-is}
+use Rattle.integer.proofs.Within.{result_is}
 use Rattle.scans.specs.RefusalTable.{first}
 use Rattle.knot.specs.Machine.{refusal}
 use Rattle.scans.specs.Queries.{value_at}
-use Rattle.calls.specs.Calls.{value as Calls·value, causes}
+use Rattle.calls.specs.Calls
+use Rattle.calls.specs.Calls.{causes}
 use Rattle.reel.specs.Machine.{scans}
-use Rattle.reel.proofs.Scans.{scans-of}
+use Rattle.reel.proofs.Scans.{scans_of}
 use Rattle.reel.proofs.held.Promises.{refuses, answers}
 use Rattle.reel.proofs.held.Found.{reached}
 use Rattle.reel.proofs.held.Reel.value.Statement.{statement}
@@ -35,7 +36,7 @@ returns c =
 enum_told : tie.Need-enum-told
 enum_told c = search rules
 
-passed : (c : tie.After-enum-told) → let b = c.before.before.before in first (causes (Calls·value b.args.x) (scans b.args.self)) ≡ none
+passed : (c : tie.After-enum-told) → let b = c.before.before.before in first (causes (Calls.value b.args.x) (scans b.args.self)) ≡ none
 passed c = sym c.before.before.query-verdict.ensures ∙ ap refusal c.enum_told.given.1
 
 value-requires : tie.Need-value-requires
@@ -46,8 +47,8 @@ returns-2 c =
     let e = c.before.before in
     let b = e.before.before.before in
     let r = b.args.self in
-    answers (Calls·value b.args.x) r _ (value_at (scans r) b.args.x) [] b.requires (passed e) refl
-    (result-is c.value.result c.value.type-inv ∙ c.value.ensures ∙ ap (λ s. value_at s b.args.x) (sym (scans-of r.knots r.count))) refl refl
+    answers (Calls.value b.args.x) r _ (value_at (scans r) b.args.x) [] b.requires (passed e) refl
+    (result_is c.value.result c.value.type-inv ∙ c.value.ensures ∙ ap (λ s. value_at s b.args.x) (sym (scans_of r.knots r.count))) refl refl
 
 pub value_spec : {M : Type 1} → statement M
 value_spec = tie.close (tie.spec query-verdict-requires enum-known-cause refused-requires returns enum_told value-requires returns-2)

@@ -10,11 +10,11 @@ use mir.Syntax.{w64}
 use mir.Val.{to_z}
 use mir.Facts.{to_z_pos}
 use Rattle.knot.specs.declared.table.Refusal.TheVariants as Refusals
-use Rattle.block.specs.Block.{block, writtenMax, written}
+use Rattle.block.specs.Block.{block, written_max, written}
 use Rattle.block.proofs.Written.{block-length}
 use Rattle.calls.specs.Calls.{write}
 use Rattle.reel.specs.Machine.{scans}
-use Rattle.reel.proofs.Scans.{scans-of}
+use Rattle.reel.proofs.Scans.{scans_of}
 use Rattle.reel.proofs.held.Promises.{refuses, answers}
 use Rattle.reel.proofs.held.Reel.write.Statement.{statement}
 use Rattle.reel.proofs.held.Reel.write.Tie as tie
@@ -32,7 +32,7 @@ returns c =
     let r = b.args.self in
     let size = length (block (scans r)) in
     let short : length b.args.out.now < size =
-    omega (arith, e.if1.true, e.before.length.ensures, ap (λ s. length (block s)) (sym (scans-of r.knots r.count))) in
+    omega (arith, e.if1.true, e.before.length.ensures, ap (λ s. length (block s)) (sym (scans_of r.knots r.count))) in
     refuses (write b.args.out.now) r Refusals.Output c.refused.result b.requires c.refused.ensures
     (rw (lt-ltb (length b.args.out.now) size short) refl)
 
@@ -51,9 +51,9 @@ returns-2 c =
     let b = e.before.before.before.before in
     let r = b.args.self in
     let n = c.before.before.write in
-    let are = sym (scans-of r.knots r.count) in
+    let are = sym (scans_of r.knots r.count) in
     let size : n.result ≡ length (block (scans r)) = n.ensures.0 ∙ ap (λ s. length (block s)) are in
-    let most : length (block (scans r)) ≤ writtenMax = block-length (scans r) b.requires.standing in
+    let most : length (block (scans r)) ≤ written_max = block-length (scans r) b.requires.standing in
     let room : length (block (scans r)) ≤ length b.args.out.now =
     omega (arith, e.if1.false, e.before.length.ensures, ap (λ s. length (block s)) are) in
     answers (write b.args.out.now) r (to_z w64 n.result) (pos (length (block (scans r)))) _ b.requires

@@ -2,7 +2,7 @@
 use borrow.Author.Rules.{rules}
 use mathlib.Core.Path.{◌≡◌, refl, ◌∙◌, ap}
 use Prim.Native.Nat.{ℕ, ◌+◌, ◌*◌, ◌-◌, ◌/◌, ◌%◌, ◌^◌, ◌≤◌, ◌<◌}
-use native.Mathlib.Nat.{div-add-mod', mod-lt, mod-eq_of_lt, mul-le-mul}
+use native.Mathlib.Nat.{div-add-mod', mod_lt, mod-eq_of_lt, mul-le-mul}
 use native.Mathlib.Omega.{arith}
 use mir.Syntax.{w64}
 use mir.Val.{Fits}
@@ -19,8 +19,8 @@ shifted x h = mod-eq_of_lt (omega arith)
 -- the quotient by the reciprocal, and what it leaves
 module _ (a : ℕ) (s : Divisor) (proper : a ≤ s.d) (divides : Divides s.d s.reciprocal) (w : ℕ)
     (known : w ≡ (a * 2 ^ 32 % 2 ^ 64) * s.reciprocal / 2 ^ 64) where
-  numerator-is : a * 2 ^ 32 % 2 ^ 64 ≡ a * 2 ^ 32
-  numerator-is = shifted a (omega (arith, divides.at_most))
+  numerator_is : a * 2 ^ 32 % 2 ^ 64 ≡ a * 2 ^ 32
+  numerator_is = shifted a (omega (arith, divides.at_most))
 
   whole_is : w ≡ a * 2 ^ 32 / s.d
   whole_is =
@@ -28,20 +28,20 @@ module _ (a : ℕ) (s : Divisor) (proper : a ≤ s.d) (divides : Divides s.d s.r
       known ∙ quotient (mul-le-mul most divides.at_most)
     where
       quotient : a * s.d ≤ 4096 * 4096 → (a * 2 ^ 32 % 2 ^ 64) * s.reciprocal / 2 ^ 64 ≡ a * 2 ^ 32 / s.d
-      quotient small = rw (numerator-is, divides.in_parts)
+      quotient small = rw (numerator_is, divides.in_parts)
           (by_reciprocal (2 ^ 64) s.d (a * 2 ^ 32) divides.at_least (omega (arith, small)))
 
   whole-and-rest : w * s.d + a * 2 ^ 32 % s.d ≡ a * 2 ^ 32
   whole-and-rest = rw whole_is (div-add-mod' (a * 2 ^ 32) s.d)
 
   rest_below : a * 2 ^ 32 % s.d < s.d
-  rest_below = mod-lt (a * 2 ^ 32) divides.at_least
+  rest_below = mod_lt (a * 2 ^ 32) divides.at_least
 
   whole-fits : Fits w64 (w * s.d)
   whole-fits = record { fits = omega (arith, whole-and-rest, divides.at_most) }
 
   whole_below : w * s.d ≤ a * 2 ^ 32 % 2 ^ 64
-  whole_below = omega (arith, numerator-is, whole-and-rest)
+  whole_below = omega (arith, numerator_is, whole-and-rest)
 
   prepared : Prepared (record {
     a = a;
@@ -54,8 +54,8 @@ module _ (a : ℕ) (s : Divisor) (proper : a ≤ s.d) (divides : Divides s.d s.r
   prepared = record {
     divides = divides;
     proper = proper;
-    quotient = omega (arith, numerator-is, whole-and-rest);
-    below = omega (arith, numerator-is, whole-and-rest, rest_below);
+    quotient = omega (arith, numerator_is, whole-and-rest);
+    below = omega (arith, numerator_is, whole-and-rest, rest_below);
     biased = ap (λ x. x + s.d / 2) (shifted s.d divides.at_most);
   }
 
