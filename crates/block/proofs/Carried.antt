@@ -3,7 +3,7 @@ use mathlib.Core.List.{List, [], ◌∷◌, map}
 use mathlib.Core.Option.{Option, none, some}
 use mathlib.Core.Path.{◌≡◌, refl, sym, ◌∙◌, ap}
 use Prim.Native.Nat.{ℕ, zero, suc, ◌^◌, ◌≤◌}
-use native.Mathlib.Nat.{mod_lt}
+use native.Mathlib.Nat.{mod-lt}
 use native.Mathlib.Omega.{arith}
 use lib.ListN.{length, get_or, length-map}
 use Rattle.rounding.specs.Limits.{readings_max}
@@ -29,7 +29,7 @@ record Such (xs : List ℕ) : Type 0 where
 
 values-below : (ws : List ℕ) → Below (2 ^ 16) (map reading ws)
 values-below [] = tt
-values-below (w ∷ ws) = (mod_lt w {m = 2 ^ 16} (omega arith), values-below ws)
+values-below (w ∷ ws) = (mod-lt w {m = 2 ^ 16} (omega arith), values-below ws)
 
 none_such : Such []
 none_such = record { few = omega arith; small = tt }

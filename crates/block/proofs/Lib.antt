@@ -7,6 +7,7 @@ pub mod Reason
 pub mod ReadBack
 pub mod Written
 pub mod RoundTrips
+pub mod Plain
 pub mod Operators
 pub mod View
 pub mod ReadingWords

@@ -20,9 +20,9 @@ use Rattle.block.specs.Reading.{knots_causes, block_causes, knots_from, list_of}
 use Rattle.block.specs.View.{without_both, Alike}
 use Rattle.block.proofs.Reading.{Taken, taken, Accepted, accepted}
 use Rattle.block.proofs.Chain.{chain}
-use Rattle.block.proofs.ReadBack.{knots-back}
-use Rattle.block.proofs.Written.{plain_knots, read-standing}
-use Rattle.block.proofs.RoundTrips.{scan-again, knots-count, none_beside}
+use Rattle.block.proofs.Plain.{knots-back}
+use Rattle.block.proofs.Written.{read-standing}
+use Rattle.block.proofs.RoundTrips.{scan-again, knots-count}
 
 -- ---- a word that is not of kind 3 is left, and one that is goes
 
@@ -99,8 +99,7 @@ left_of_lem bs a =
 list_of_lem : (bs : List ℕ) → first (block_causes bs) ≡ none → knots_from plain_edition (length (list_of bs)) (knots_words (list_of bs) ++ []) ≡ list_of bs
 list_of_lem bs h =
     let scans : List Scan = list_of bs in
-    ap (λ us. knots_from plain_edition (length scans) (us ++ [])) (sym (plain_knots scans (λ i. []) (λ i. refl))) ∙
-    knots-back plain_edition [] refl 0 none scans (λ i. []) (chain scans (read-standing bs h)) (none_beside scans)
+    knots-back 0 none scans [] (chain scans (read-standing bs h))
 
 -- "two accepted blocks that differ only in readings and end count" are read alike
 pub alike-lists : (bs cs : List ℕ) → Alike bs cs → list_of bs ≡ list_of cs

@@ -35,7 +35,7 @@ payloads_again : (C : List ℤ) → ((j : ℕ) → j < length C → Within size_
 payloads_again [] h = refl
 payloads_again (c ∷ C) h = ap₂ (λ x xs. x ∷ xs) (coefficient-payload c (h 0 (omega arith))) (payloads_again C (λ j l. h (suc j) (omega arith)))
 
-coefficients-quiet : (C : List ℤ) (ws : List ℕ) → Quiet (coefficient_causes (length C) (map coefficient_word C ++ ws))
+pub coefficients-quiet : (C : List ℤ) (ws : List ℕ) → Quiet (coefficient_causes (length C) (map coefficient_word C ++ ws))
 coefficients-quiet [] ws = tt
 coefficients-quiet (c ∷ C) ws = (ap not (eq-eqb (kind (coefficient_word c)) 2 (coefficient-kind c)), coefficients-quiet C ws)
 
@@ -43,38 +43,38 @@ one_more : (g n : ℕ) → g ≡ n - 1 → 1 ≤ n → g + 1 ≡ n
 one_more g n e h = omega arith
 
 -- a scan's knot word, and the words after it
-abbrev knot_of : Scan → ℕ
+abbrev pub knot_of : Scan → ℕ
 knot_of s = knot_word s.position (grade_of_scan s)
 
-abbrev others : Scan → List ℕ → List ℕ
+abbrev pub others : Scan → List ℕ → List ℕ
 others s ws = map coefficient_word s.coefficients ++ ws
 
 module _ {k : ℕ} {last : Option Scan} (s : Scan) (f : Fit k last s) where
-  near : s.position < 2 ^ 16
+  pub near : s.position < 2 ^ 16
   near = omega (arith, f.position)
 
-  low : grade_of_scan s < 2 ^ 3
+  pub low : grade_of_scan s < 2 ^ 3
   low = omega (arith, f.listed.at_most)
 
-  kind-back : kind (knot_of s) ≡ 1
+  pub kind-back : kind (knot_of s) ≡ 1
   kind-back = knot-kind s.position (grade_of_scan s) near low
 
-  position-back : position (knot_of s) ≡ s.position
+  pub position-back : position (knot_of s) ≡ s.position
   position-back = knot-position s.position (grade_of_scan s) near
 
-  length_back : grade (knot_of s) + 1 ≡ length s.coefficients
+  pub length_back : grade (knot_of s) + 1 ≡ length s.coefficients
   length_back = one_more (grade (knot_of s)) (length s.coefficients) (knot-grade s.position (grade_of_scan s) near low) f.listed.at_least
 
   words_back : length (map coefficient_word s.coefficients) ≡ grade (knot_of s) + 1
   words_back = length-map s.coefficients coefficient_word ∙ sym length_back
 
-  scan-back : (ws : List ℕ) → scan_from (knot_of s) (others s ws) ≡ s
+  pub scan-back : (ws : List ℕ) → scan_from (knot_of s) (others s ws) ≡ s
   scan-back ws =
       ap₂ scan_of position-back
       (ap (map payload) (take_at (map coefficient_word s.coefficients) ws (grade (knot_of s) + 1) words_back) ∙
       payloads_again s.coefficients f.coefficients)
 
-  after-back : (ws : List ℕ) → behind (knot_of s) (others s ws) ≡ ws
+  pub after-back : (ws : List ℕ) → behind (knot_of s) (others s ws) ≡ ws
   after-back ws = drop_at (map coefficient_word s.coefficients) ws (grade (knot_of s) + 1) words_back
 
   -- a knot word is no reading of the knot before
@@ -123,27 +123,27 @@ knots-over k last [] readings ws c over = over
 knots-over k last (s ∷ scans) readings ws c over =
     knot-over s c.0 (map coefficient_word s.coefficients ++ map reading_word (readings 0) ++ carried_knots scans (λ i. readings (suc i)) ++ ws)
 
-pub knots-quiet : (e b : ℕ) → b < 2 ^ 29 → (k : ℕ) (last : Option Scan) (scans : List Scan) (readings : ℕ → List ℕ) → Chain k last scans →
+pub carried_knots-quiet : (e b : ℕ) → b < 2 ^ 29 → (k : ℕ) (last : Option Scan) (scans : List Scan) (readings : ℕ → List ℕ) → Chain k last scans →
     Beside e scans readings → Quiet (knots_causes e b k (length scans) last (carried_knots scans readings ++ end_word b ∷ []))
-knots-quiet e b h k last [] readings c r =
+carried_knots-quiet e b h k last [] readings c r =
     (ap not (both (eq-eqb (kind (end_word b)) 3 (end-kind b (omega arith))) (eq-eqb (words_before (end_word b)) b (end_before b (omega arith)))), tt)
-knots-quiet e b h k last (s ∷ scans) readings c r =
+carried_knots-quiet e b h k last (s ∷ scans) readings c r =
     let rest : ℕ → List ℕ = λ i. readings (suc i) in
     let us : List ℕ = carried_knots scans rest ++ end_word b ∷ [] in
     subst (λ ws. Quiet (knots_causes e b k (suc (length scans)) last ws)) (sym (apart s (readings 0) (carried_knots scans rest) (end_word b ∷ [])))
     (knot-quiet s c.0 (readings 0) (r 0 (omega arith)) us (knots-over (suc k) (some s) scans rest (end_word b ∷ []) c.1 (over-end b h)) b (length scans)
-    (knots-quiet e b h (suc k) (some s) scans rest c.1 (λ i l. r (suc i) (omega arith))))
+    (carried_knots-quiet e b h (suc k) (some s) scans rest c.1 (λ i l. r (suc i) (omega arith))))
 
 module _ (e : ℕ) (ws : List ℕ) (over : Over ws) where
-  pub knots-back : (k : ℕ) (last : Option Scan) (scans : List Scan) (readings : ℕ → List ℕ) → Chain k last scans → Beside e scans readings →
+  pub carried_knots-back : (k : ℕ) (last : Option Scan) (scans : List Scan) (readings : ℕ → List ℕ) → Chain k last scans → Beside e scans readings →
       knots_from e (length scans) (carried_knots scans readings ++ ws) ≡ scans
-  knots-back k last [] readings c r = refl
-  knots-back k last (s ∷ scans) readings c r =
+  carried_knots-back k last [] readings c r = refl
+  carried_knots-back k last (s ∷ scans) readings c r =
       let rest : ℕ → List ℕ = λ i. readings (suc i) in
       ap (knots_from e (suc (length scans))) (apart s (readings 0) (carried_knots scans rest) ws) ∙
       knot-back s c.0 (readings 0) (r 0 (omega arith)) (carried_knots scans rest ++ ws) (knots-over (suc k) (some s) scans rest ws c.1 over)
       (length scans) ∙
-      ap (λ ts. s ∷ ts) (knots-back (suc k) (some s) scans rest c.1 (λ i l. r (suc i) (omega arith)))
+      ap (λ ts. s ∷ ts) (carried_knots-back (suc k) (some s) scans rest c.1 (λ i l. r (suc i) (omega arith)))
 
   first-shown : (k : ℕ) (last : Option Scan) (s : Scan) (scans : List Scan) (readings : ℕ → List ℕ) → Chain k last (s ∷ scans) →
       Beside e (s ∷ scans) readings → readings_from e (suc (length scans)) (carried_knots (s ∷ scans) readings ++ ws) ≡
@@ -167,13 +167,13 @@ coefficients-below : (C : List ℤ) → Below (2 ^ 32) (map coefficient_word C)
 coefficients-below [] = tt
 coefficients-below (c ∷ C) = (omega (arith, twos_below c), coefficients-below C)
 
-pub knots-below : (e k : ℕ) (last : Option Scan) (scans : List Scan) (readings : ℕ → List ℕ) → Chain k last scans → Beside e scans readings →
+pub carried_knots-below : (e k : ℕ) (last : Option Scan) (scans : List Scan) (readings : ℕ → List ℕ) → Chain k last scans → Beside e scans readings →
     Below (2 ^ 32) (carried_knots scans readings)
-knots-below e k last [] readings c r = tt
-knots-below e k last (s ∷ scans) readings c r =
+carried_knots-below e k last [] readings c r = tt
+carried_knots-below e k last (s ∷ scans) readings c r =
     let rest : ℕ → List ℕ = λ i. readings (suc i) in
     below_both (2 ^ 32) (scan_words s ++ map reading_word (readings 0)) (carried_knots scans rest)
     (below_both (2 ^ 32) (scan_words s) (map reading_word (readings 0))
     (omega (arith, c.0.position, c.0.listed.at_most), coefficients-below s.coefficients)
     (readings-below (readings 0) (r 0 (omega arith)).small))
-    (knots-below e (suc k) (some s) scans rest c.1 (λ i l. r (suc i) (omega arith)))
+    (carried_knots-below e (suc k) (some s) scans rest c.1 (λ i l. r (suc i) (omega arith)))

@@ -1,5 +1,5 @@
 -- What a block without a fault says, word by word, and that a list of causes none of which holds has no first.
-use borrow.Author.Tests.{ltb_false, eqb-true, not-false}
+use borrow.Author.Tests.{ltb-false, eqb-true, not-false}
 use mathlib.Core.Bool.{true, false, not, ◌&&◌, true≢false}
 use mathlib.Core.List.{List, [], ◌∷◌, ◌++◌}
 use mathlib.Core.Option.{Option, none, some}
@@ -38,7 +38,7 @@ header w q =
       kind_is = eqb-true (kind w) 0 (both_first (eqb (kind w) 0) _ form);
       edition_is = both_first (is_edition (edition w)) _ later;
       spare_is = eqb-true (header_spare w) 0 (both-second (is_edition (edition w)) _ later);
-      count = ltb_false knots_max (knot_count w) q.1.0;
+      count = ltb-false knots_max (knot_count w) q.1.0;
     }
 
 -- knot k with n more to come after it, and the words after its own, in a block of edition e

@@ -29,8 +29,8 @@ use Rattle.block.proofs.Bytes.{below_both, bytes-again, length-bytes, words-agai
 use Rattle.block.proofs.Reading.{Header, Taken, taken, read-grade, Accepted, accepted}
 use Rattle.block.proofs.Chain.{chain}
 use Rattle.block.proofs.ReadingWords.{over-end, readings-again}
-use Rattle.block.proofs.ReadBack.{Beside, knots-quiet, knots-back, knots-shown, knots-below}
-use Rattle.block.proofs.Written.{plain_knots, knots-length}
+use Rattle.block.proofs.ReadBack.{Beside, carried_knots-quiet, carried_knots-back, knots-shown, carried_knots-below}
+use Rattle.block.proofs.Written.{plain_knots, carried_knots-length}
 
 -- ---- an accepted block written again
 
@@ -123,7 +123,7 @@ module _ (e : ℕ) (small : e < 2 ^ 8) (read : is_edition e ≡ true) (scans : L
   after = carried_knots scans readings ++ end_word before ∷ []
 
   open_length : before < 2 ^ 29
-  open_length = omega (arith, knots-length readings_max 0 none scans readings (chain scans st) (λ i l. (r i l).few), st.count)
+  open_length = omega (arith, carried_knots-length readings_max 0 none scans readings (chain scans st) (λ i l. (r i l).few), st.count)
 
   after-length : length after ≡ before
   after-length = omega (arith, length-append (carried_knots scans readings) (end_word before ∷ []))
@@ -140,13 +140,13 @@ module _ (e : ℕ) (small : e < 2 ^ 8) (read : is_edition e ≡ true) (scans : L
       (header-quiet (length scans) e st.count small read)
       (subst (λ d. Quiet (knots_causes d (length after) 0 (knot_count head) none after)) (sym edition-back)
       (subst₂ (λ b n. Quiet (knots_causes e b 0 n none after)) (sym after-length) (sym count-back)
-      (knots-quiet e before open_length 0 none scans readings (chain scans st) r)))
+      (carried_knots-quiet e before open_length 0 none scans readings (chain scans st) r)))
 
   words-read : words (bytes (carried_words e scans readings)) ≡ head ∷ after
   words-read =
       words-again (carried_words e scans readings) (
         omega (arith, st.count),
-        below_both (2 ^ 32) (carried_knots scans readings) _ (knots-below e 0 none scans readings (chain scans st) r)
+        below_both (2 ^ 32) (carried_knots scans readings) _ (carried_knots-below e 0 none scans readings (chain scans st) r)
             (omega (arith, open_length), tt),
       )
 
@@ -164,7 +164,7 @@ module _ (e : ℕ) (small : e < 2 ^ 8) (read : is_edition e ≡ true) (scans : L
   unfolding list_of
   carried_list =
       ap list_of_words words-read ∙ ap₂ (λ d n. knots_from d n after) edition-back count-back ∙
-      knots-back e (end_word before ∷ []) (over-end before open_length) 0 none scans readings (chain scans st) r
+      carried_knots-back e (end_word before ∷ []) (over-end before open_length) 0 none scans readings (chain scans st) r
 
   pub carried_shown : (k : ℕ) → k < length scans → readings_of (bytes (carried_words e scans readings)) k ≡ readings k
   unfolding readings_of

@@ -1,11 +1,11 @@
 -- The list of an accepted block stands; a written block has at most 4,652 bytes, and an accepted one at most 21,164.
-use borrow.Author.Tests.{ltb_false}
+use borrow.Author.Tests.{ltb-false}
 use mathlib.Core.Bool.{true≢false}
 use mathlib.Core.List.{List, [], ◌∷◌, ◌++◌, map, append-nil}
 use mathlib.Core.Option.{Option, none, some}
 use mathlib.Core.Path.{◌≡◌, refl, sym, ◌∙◌, ap, ap₂}
 use Prim.Native.Nat.{ℕ, zero, suc, ◌+◌, ◌*◌, ◌/◌, ◌^◌, ◌≤◌, ◌<◌}
-use native.Mathlib.Nat.{mod_lt}
+use native.Mathlib.Nat.{mod-lt}
 use native.Mathlib.Omega.{arith}
 use lib.ListN.{length, length-append, length-map, length-drop}
 use lib.Seq.{append_snoc, get_or-append_seam}
@@ -34,10 +34,10 @@ plain_knots (s ∷ scans) readings h =
     ap₂ (λ xs us. scan_words s ++ map reading_word xs ++ us) (h 0) (plain_knots scans (λ i. readings (suc i)) (λ i. h (suc i))) ∙
     ap (λ us. us ++ knots_words scans) (append-nil (scan_words s))
 
-pub knots-length : (m k : ℕ) (last : Option Scan) (scans : List Scan) (readings : ℕ → List ℕ) → Chain k last scans →
+pub carried_knots-length : (m k : ℕ) (last : Option Scan) (scans : List Scan) (readings : ℕ → List ℕ) → Chain k last scans →
     ((i : ℕ) → i < length scans → length (readings i) ≤ m) → length (carried_knots scans readings) ≤ (9 + m) * length scans
-knots-length m k last [] readings c few = omega arith
-knots-length m k last (s ∷ scans) readings c few =
+carried_knots-length m k last [] readings c few = omega arith
+carried_knots-length m k last (s ∷ scans) readings c few =
     let rest : ℕ → List ℕ = λ i. readings (suc i) in
     omega (
       arith,
@@ -47,7 +47,7 @@ knots-length m k last (s ∷ scans) readings c few =
       length-map (readings 0) reading_word,
       c.0.listed.at_most,
       few 0 (omega arith),
-      knots-length m (suc k) (some s) scans rest c.1 (λ i l. few (suc i) (omega arith)),
+      carried_knots-length m (suc k) (some s) scans rest c.1 (λ i l. few (suc i) (omega arith)),
     )
 
 -- a header, the knots' words and the end word
@@ -64,7 +64,7 @@ block-length scans st =
       length-bytes (block_words scans),
       length-append (knots_words scans) (end_word (length (open_words scans)) ∷ []),
       ap length (plain_knots scans (λ i. []) (λ i. refl)),
-      knots-length 0 0 none scans (λ i. []) (chain scans st) (λ i l. omega arith),
+      carried_knots-length 0 0 none scans (λ i. []) (chain scans st) (λ i l. omega arith),
       st.count,
     )
 
@@ -74,7 +74,7 @@ last-new : (done : List Scan) (s : Scan) → some s ≡ before (done ++ s ∷ []
 last-new done s = sym (last_at (done ++ s ∷ []) (length done) (omega (arith, length-append done (s ∷ []))) ∙ ap some (get_or-append_seam done s [] (scan_of 0 [])))
 
 read-listed : (w : ℕ) (ws : List ℕ) → length (scan_from w ws).coefficients ≡ grade w + 1 → Listed (scan_from w ws).coefficients
-read-listed w ws e = record { at_least = omega arith; at_most = omega (arith, mod_lt (w / 2 ^ 16) {m = 2 ^ 3} (omega arith)) }
+read-listed w ws e = record { at_least = omega arith; at_most = omega (arith, mod-lt (w / 2 ^ 16) {m = 2 ^ 3} (omega arith)) }
 
 knots-standing : (e b k n : ℕ) (done : List Scan) (last : Option Scan) (ws : List ℕ) → Standing done → k ≡ length done → last ≡ before done (length done) →
     length done + n ≤ knots_max → Quiet (knots_causes e b k n last ws) → Standing (done ++ knots_from e n ws)
@@ -104,7 +104,7 @@ knot_words_max = 1 + (grade_max + 1) + readings_max
 
 pub readings-few : (count : ℕ) (ws : List ℕ) → count ≤ readings_max → Quiet (reading_causes count ws) → count + length ws ≤ readings_max
 readings-few count [] h q = omega arith
-readings-few count (w ∷ ws) h q = omega (arith, readings-few (suc count) ws (ltb_false readings_max (suc count) q.1.0) q.1.1)
+readings-few count (w ∷ ws) h q = omega (arith, readings-few (suc count) ws (ltb-false readings_max (suc count) q.1.0) q.1.1)
 
 end-length : (b : ℕ) (ws : List ℕ) → Quiet (end_causes b ws) → length ws ≡ 1
 end-length b [] q = absurd (true≢false q.0)
@@ -119,7 +119,7 @@ words-most e b k (suc n) last (w ∷ ws) q =
     omega (
       arith,
       length-drop (grade w + 1) ws,
-      mod_lt (w / 2 ^ 16) {m = 2 ^ 3} (omega arith),
+      mod-lt (w / 2 ^ 16) {m = 2 ^ 3} (omega arith),
       length-drop (length (reading_words e (behind w ws))) (behind w ws),
       readings-few 0 (reading_words e (behind w ws)) (omega arith) t.readings,
       words-most e b (suc k) n (some (scan_from w ws)) (after_readings e (behind w ws)) t.later,

@@ -1,5 +1,5 @@
-pub mod Bytes
 pub mod Fields
+pub mod Bytes
 pub mod Block
 pub mod Reading
 pub mod View

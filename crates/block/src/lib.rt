@@ -1,5 +1,7 @@
 // Blocks: what they are, that reading undoes writing, and writing reading in edition 1; and the readings beside their
 // knots. No functions: definitions in specs/, laws in proofs/; the reader, the writer and the view stand above.
+#![tactic(auto)]
+
 pub const PLAIN_EDITION: u8 = 1;
 
 pub const READINGS_EDITION: u8 = 2;

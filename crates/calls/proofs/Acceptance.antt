@@ -1,5 +1,5 @@
 -- Demand 1: an append, a correct and a sum are accepted exactly when what they would leave can stand.
-use borrow.Author.Tests.{ltb_false, leb-false, lt-leb}
+use borrow.Author.Tests.{ltb-false, leb-false, lt-leb}
 use mathlib.Core.List.{List}
 use mathlib.Core.Logic.{◌↔◌}
 use mathlib.Core.Option.{none}
@@ -47,8 +47,8 @@ summable α β A B st st' e =
     let q = quiet (combination_causes α β A B) e in
     let alike = accepted-aligned α β A B e in
     record {
-      alpha = ltb_false multiplier_max (nat_abs α) q.0;
-      beta = ltb_false multiplier_max (nat_abs β) q.1.0;
+      alpha = ltb-false multiplier_max (nat_abs α) q.0;
+      beta = ltb-false multiplier_max (nat_abs β) q.1.0;
       counts = counts A B alike;
       positions = λ k h. sym (positions A B alike k h);
       grades = λ k h. sym (grades A B alike k h);

@@ -101,24 +101,24 @@ replies-are none v v' w law = all-answer v v' w (law refl)
 replies-are (some n) v v' w law = all_refuse n
 
 module _ (α β : ℤ) (A B : List Scan) (st : Standing A) (quiet : first (combination_causes α β A B) ≡ none) where
-  abbrev C : List Scan
-  C = combination α β A B
+  abbrev both : List Scan
+  both = combination α β A B
 
   alike : all_aligned A B ≡ true
   alike = accepted-aligned α β A B quiet
 
-  pub sum-combined : Combined α β A B C
+  pub sum-combined : Combined α β A B both
   sum-combined = combination_laws α β A B st alike
 
   pub sum-total-replies : (i j : ℕ) →
-      SumReplies (λ t t' w. w ≡ α *ℤ t +ℤ β *ℤ t') (reply_to (total i j) A) (reply_to (total i j) B) (reply_to (total i j) C)
+      SumReplies (λ t t' w. w ≡ α *ℤ t +ℤ β *ℤ t') (reply_to (total i j) A) (reply_to (total i j) B) (reply_to (total i j) both)
   unfolding reply_to
   sum-total-replies i j = rw (← counts A B alike, count_is A B alike α β)
-      (replies-are (first (causes (total i j) A)) (total_over A i j) (total_over B i j) (total_over C i j)
+      (replies-are (first (causes (total i j) A)) (total_over A i j) (total_over B i j) (total_over both i j)
       (λ e. let r = in_range (length A) i j e in sum-combined.totals i j r.order r.last))
 
-  pub sum-value-replies : (x : ℕ) → SumReplies (CombinedDistance α β (value_piece A x)) (reply_to (value x) A) (reply_to (value x) B) (reply_to (value x) C)
+  pub sum-value-replies : (x : ℕ) → SumReplies (CombinedDistance α β (value_piece A x)) (reply_to (value x) A) (reply_to (value x) B) (reply_to (value x) both)
   unfolding reply_to
   sum-value-replies x =
-      rw (same-refusal A B x (sym (counts A B alike)) (positions A B alike), same-refusal A C x (count_is A B alike α β) (position_is A B alike α β))
-      (replies-are (first (causes (value x) A)) (value_at A x) (value_at B x) (value_at C x) (λ e. sum-combined.values x (in_reel A x e)))
+      rw (same-refusal A B x (sym (counts A B alike)) (positions A B alike), same-refusal A both x (count_is A B alike α β) (position_is A B alike α β))
+      (replies-are (first (causes (value x) A)) (value_at A x) (value_at B x) (value_at both x) (λ e. sum-combined.values x (in_reel A x e)))

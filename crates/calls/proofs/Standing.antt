@@ -1,5 +1,5 @@
 -- Every call leaves a list that stands, of one that stands (`Standing` of scans/specs/Standing.antt).
-use borrow.Author.Tests.{ltb_false, leb-false}
+use borrow.Author.Tests.{ltb-false, leb-false}
 use mathlib.Core.List.{List, [], ◌∷◌}
 use mathlib.Core.Option.{Option, none, some}
 use mathlib.Core.Path.{◌≡◌, refl, sym, ◌∙◌, ap, ap₂}
@@ -105,7 +105,7 @@ changed-standing clear scans st e = standing_none
 changed-standing (append x C) scans st e =
     let q = quiet (causes (append x C) scans) e in
     let last = before scans (length scans) in
-    appended_standing scans (scan_of x C) st (ltb_false knots_max (length scans + 1) q.0) (listed C q.1.0)
+    appended_standing scans (scan_of x C) st (ltb-false knots_max (length scans + 1) q.0) (listed C q.1.0)
     (placed last x q.1.1.0 q.1.1.1.0) (not_found (first_too_large (append_products (length scans) last (scan_of x C))) q.1.1.1.1.0)
 changed-standing (correct k C) scans st e =
     let q = quiet (causes (correct k C) scans) e in

@@ -1,6 +1,6 @@
 pub mod Calls
-pub mod Acceptance
-pub mod KnownResults
+pub mod Same
 pub mod Combination
 pub mod Reason
-pub mod Same
+pub mod KnownResults
+pub mod Acceptance

@@ -1,1 +1,2 @@
 // What each call answers and leaves. No functions: definitions in specs/, laws in proofs/.
+#![tactic(auto)]

@@ -1,7 +1,7 @@
 -- Floor division has the characterisation `Floor`, and nothing else has it. The floor of a product can be put together from its parts.
 use mathlib.Core.Path.{◌≡◌, sym, ◌∙◌, ap}
 use Prim.Native.Nat.{ℕ, suc, ◌+◌, ◌*◌, ◌-◌, ◌/◌, ◌%◌, ◌<◌}
-use native.Mathlib.Nat.{div-add-mod', mod_lt, mul-le-mul_right}
+use native.Mathlib.Nat.{div-add-mod', mod-lt, mul-le-mul_right}
 use native.Mathlib.Omega.{arith}
 use native.Mathlib.Decide.{dec_lt}
 use lib.IntN.{ℤ, pos, negsuc, ◌+ℤ◌, ◌-ℤ◌, ◌*ℤ◌}
@@ -11,8 +11,8 @@ use Rattle.integer.specs.Within.{up, dn}
 use Rattle.integer.proofs.Difference.{as_⊖, minus_⊖, differences}
 
 pub floor : (z : ℤ) (d : ℕ) → 0 < d → Floor z d (shr_z z d)
-floor (pos n) d h = record { rest = n % d; small = omega (arith, mod_lt n h); whole = ap pos (sym (div-add-mod' n d)) }
-floor (negsuc n) d h = record { rest = d - suc (n % d); small = omega arith; whole = simp differences (omega (arith, div-add-mod' n d, mod_lt n h)) }
+floor (pos n) d h = record { rest = n % d; small = omega (arith, mod-lt n h); whole = ap pos (sym (div-add-mod' n d)) }
+floor (negsuc n) d h = record { rest = d - suc (n % d); small = omega arith; whole = simp differences (omega (arith, div-add-mod' n d, mod-lt n h)) }
 
 -- a smaller quotient would leave a rest of d or more
 not_below : (d A B r s : ℕ) → s < d → A < B → A * d + s ≡ B * d + r → ⊥
@@ -37,7 +37,7 @@ one-floor {d = d} {q = q} {p = p} f g = go q p (sym f.whole ∙ g.whole)
 -- is added before the floor is taken
 pub floor_of_product : (P a d c low whole rest bias n : ℕ) (u high : ℤ) → 0 < d → u ≡ high *ℤ pos P +ℤ pos low → whole * d + rest ≡ a * P → bias ≡ d * P + c →
     high *ℤ pos rest +ℤ pos (low * a + bias) ≡ pos n → Floor (u *ℤ pos a +ℤ pos c) d (high *ℤ pos whole +ℤ (pos (n / d) -ℤ pos P))
-floor_of_product P a d c low whole rest bias n u high positive e f b g = record { rest = n % d; small = mod_lt n positive; whole = all high e g }
+floor_of_product P a d c low whole rest bias n u high positive e f b g = record { rest = n % d; small = mod-lt n positive; whole = all high e g }
   where
     naturals : (H L q s : ℕ) → q * d + s ≡ n → H * rest + (low * a + bias) ≡ n + L * rest →
         H * P * a + low * a + c + (L * whole + P) * d ≡ (H * whole + q) * d + s + L * P * a

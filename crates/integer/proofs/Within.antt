@@ -58,15 +58,15 @@ fits-within w (negsuc n) f = record { hi = omega arith; lo = f.sfits }
 
 -- a number of 32 bits, as it is held in 64
 pub wide_is : (z : ℤ) → SFits w32 z → to_z w64 (of_z w64 (to_z w32 (of_z w32 z))) ≡ z
-wide_is z f = ap (λ y. to_z w64 (of_z w64 y)) (to_z-of_z f) ∙ to_z-of_z (sfits_widen tt f)
+wide_is z f = ap (λ y. to_z w64 (of_z w64 y)) (to_z-of_z {w = w32} f) ∙ to_z-of_z {w = w64} (sfits_widen {w = w32} {w' = w64} (tt {0}) f)
 
 -- what is computed, as it is held in 64 bits
 pub computed_is : {z y : ℤ} → z ≡ y → SFits w64 y → to_z w64 (of_z w64 z) ≡ y
-computed_is e f = ap (λ z. to_z w64 (of_z w64 z)) e ∙ to_z-of_z f
+computed_is e f = ap (λ z. to_z w64 (of_z w64 z)) e ∙ to_z-of_z {w = w64} f
 
 -- and the result of a call
 pub result_is : (z : ℤ) → mag z < 2 ^ 63 → to_z w64 (of_z w64 z) ≡ z
-result_is z h = to_z-of_z (record { sfits = h })
+result_is z h = to_z-of_z {w = w64} (record { sfits = h })
 
 pub within-natural : (n : ℕ) → Within n (pos n)
 within-natural n = record { hi = omega arith; lo = omega arith }

@@ -1,5 +1,5 @@
 -- The first cause that holds, of two lists one after the other; and what holds where none does.
-use borrow.Author.Tests.{ltb_false, leb-false, eqb-false, le-ltb, ne_eqb}
+use borrow.Author.Tests.{ltb-false, leb-false, eqb-false, le-ltb, ne_eqb}
 use mathlib.Core.Bool.{Bool, true, false, ◌||◌, true≢false}
 use mathlib.Core.List.{List, ◌++◌}
 use mathlib.Core.Option.{Option, none, some, some-ne-none, some-injective}
@@ -57,7 +57,7 @@ neither false b e = (refl, e)
 pub listed : (C : List ℤ) → (bad_list (length C)).holds ≡ false → Listed C
 listed C e =
     let p = neither (eqb (length C) 0) (ltb (grade_max + 1) (length C)) e in
-    record { at_least = omega (arith, eqb-false (length C) 0 p.0); at_most = ltb_false (grade_max + 1) (length C) p.1 }
+    record { at_least = omega (arith, eqb-false (length C) 0 p.0); at_most = ltb-false (grade_max + 1) (length C) p.1 }
 
 pub list_passes : (C : List ℤ) → Listed C → (bad_list (length C)).holds ≡ false
 list_passes C l = rw (ne_eqb (length C) 0 (omega (arith, l.at_least)), le-ltb (grade_max + 1) (length C) l.at_most) refl
@@ -70,14 +70,14 @@ pub record Placed (last : Option Scan) (x : ℕ) : Type 0 where
 
 pub placed : (last : Option Scan) (x : ℕ) → (bad_position last x).holds ≡ false → (wide_gap last x).holds ≡ false → Placed last x
 placed none x p w = record {
-  position = ltb_false position_max x (neither (ltb position_max x) false p).0;
+  position = ltb-false position_max x (neither (ltb position_max x) false p).0;
   above = λ held e. absurd (some-ne-none _ (sym e));
   near = λ held e. absurd (some-ne-none _ (sym e));
 }
 placed (some l) x p w =
     let q = neither (ltb position_max x) (leb x l.position) p in
     record {
-      position = ltb_false position_max x q.0;
+      position = ltb-false position_max x q.0;
       above = λ held e. rw (some-injective l held e) at (leb-false x l.position q.1);
-      near = λ held e. rw (some-injective l held e) at (ltb_false gap_max (gap l x) w);
+      near = λ held e. rw (some-injective l held e) at (ltb-false gap_max (gap l x) w);
     }

@@ -1,5 +1,5 @@
 -- The first cause of a call, as far as its causes were looked at one after the other; and what holds where none does.
-use borrow.Author.Tests.{not-false, ltb_false, leb-false, lt-ltb, le-ltb, le-leb, lt-leb}
+use borrow.Author.Tests.{not-false, ltb-false, leb-false, lt-ltb, le-ltb, le-leb, lt-leb}
 use mathlib.Core.Bool.{true, false}
 use mathlib.Core.List.{List, [], ◌∷◌, ◌++◌}
 use mathlib.Core.Option.{Option, none, some}
@@ -73,9 +73,9 @@ in_reel scans x e =
     let q = quiet (query_causes (length scans) (mark scans 0) (mark scans (length scans - 1)) x) e in
     let p = neither (ltb x (mark scans 0)) (ltb (mark scans (length scans - 1)) x) q.1.0 in
     record {
-      two = ltb_false (length scans) 2 q.0;
-      first = ltb_false x (mark scans 0) p.0;
-      last = ltb_false (mark scans (length scans - 1)) x p.1;
+      two = ltb-false (length scans) 2 q.0;
+      first = ltb-false x (mark scans 0) p.0;
+      last = ltb-false (mark scans (length scans - 1)) x p.1;
     }
 
 pub query_free : (scans : List Scan) (x : ℕ) → InReel scans x →
@@ -86,7 +86,7 @@ query_free scans x i =
 pub in_range : (n i j : ℕ) → first (range_causes n i j) ≡ none → InRange n i j
 in_range n i j e =
     let p = neither (ltb j i) (leb n j) (quiet (range_causes n i j) e).1.0 in
-    record { order = ltb_false j i p.0; last = leb-false n j p.1 }
+    record { order = ltb-false j i p.0; last = leb-false n j p.1 }
 
 pub range_free : (n i j : ℕ) → 2 ≤ n → InRange n i j → first (range_causes n i j) ≡ none
 range_free n i j two r = rw (le-ltb n 2 two, le-ltb j i r.order, lt-leb n j r.last) refl

@@ -1,18 +1,17 @@
 -- The pieces of a list of scans: whose Taylor coefficients each has, that of scans that stand each is one that a reel can hold, and that every
 -- query position in the reel lies at exactly one place, for a value and for a trend.
-use borrow.Author.Tests.{eqb-true, eq-eqb, ne_eqb, ltb-true, ltb_false, lt-ltb}
+use borrow.Author.Tests.{eqb-true, eq-eqb, ne_eqb, ltb-true, ltb-false, lt-ltb}
 use mathlib.Core.Bool.{Bool, true, false, ◌&&◌, cond, or-true, true≢false}
 use mathlib.Core.List.{List}
 use mathlib.Core.Path.{◌≡◌, refl, sym, ◌∙◌, ap, ap₂}
-use Prim.Native.Nat.{ℕ, zero, suc, ◌+◌, ◌-◌, ◌^◌, ◌≤◌, ◌<◌}
+use Prim.Native.Nat.{ℕ, zero, suc, ◌+◌, ◌-◌, ◌≤◌, ◌<◌}
 use native.Mathlib.Decide.{dec_lt}
 use native.Mathlib.Omega.{arith}
 use lib.Dec.{eqb, ltb}
-use lib.IntN.{pos, ◌*ℤ◌}
-use lib.ListN.{length, get_or}
+use lib.ListN.{length}
 use Rattle.integer.proofs.Tests.{both, both_first, both-second, not_yes}
 use Rattle.hermite.specs.Blend.{taylor_left, taylor_right}
-use Rattle.rounding.specs.Piece.{exact_blend, D}
+use Rattle.rounding.specs.Piece.{weight, exact_blend, D}
 use Rattle.rounding.specs.Size.{Admitted}
 use Rattle.rounding.specs.Taylor.{Taylor}
 use Rattle.scans.specs.Scan.{Scan, grade, left_list, right_list, gap, at}
@@ -27,12 +26,12 @@ use Rattle.scans.specs.Pieces.{value_place, trend_place, Lies, is_last_or_lone}
 module _ (scans : List Scan) (k : ℕ) (clause : Taylor (piece_of scans k)) where
   -- at the left end C_j × h^j of scan k, with the list that serves the piece on its right
   pub left_end : (j : ℕ) → j ≤ grade (at scans k) →
-      taylor_left j (exact_blend (piece_of scans k)) ≡ get_or (right_list (at scans k)) j (pos 0) *ℤ pos (gap (at scans k) (at scans (suc k)).position ^ j)
+      taylor_left j (exact_blend (piece_of scans k)) ≡ weight (gap (at scans k) (at scans (suc k)).position) (right_list (at scans k)) j
   left_end = clause.at_left
 
   -- at the right end that of scan k + 1, with the list that serves the piece on its left
   pub right_end_lem : (j : ℕ) → j ≤ grade (at scans (suc k)) →
-      taylor_right j (exact_blend (piece_of scans k)) ≡ get_or (left_list (at scans (suc k))) j (pos 0) *ℤ pos (gap (at scans k) (at scans (suc k)).position ^ j)
+      taylor_right j (exact_blend (piece_of scans k)) ≡ weight (gap (at scans k) (at scans (suc k)).position) (left_list (at scans (suc k))) j
   right_end_lem = clause.at_right
 
 module _ (scans : List Scan) (st : Standing scans) where
@@ -49,8 +48,8 @@ module _ (scans : List Scan) (st : Standing scans) where
   -- ---- positions rise
 
   -- the right end of a piece
-  right-query : (k : ℕ) → suc k < length scans → mark scans k + D (piece_of scans k) ≡ mark scans (suc k)
-  right-query k h = omega (arith, st.gap_at_least k h)
+  right-mark : (k : ℕ) → suc k < length scans → mark scans k + D (piece_of scans k) ≡ mark scans (suc k)
+  right-mark k h = omega (arith, st.gap_at_least k h)
 
   rises-over : (k l : ℕ) → k < l → l < length scans → mark scans k < mark scans l
   rises-over k zero a h = absurd (omega arith)
@@ -75,10 +74,10 @@ module _ (scans : List Scan) (st : Standing scans) where
     not_before h = go (dec_lt (suc p.k) q.k)
       where
         go : Dec (suc p.k < q.k) → ⊥
-        go (yes later) = omega (arith, rises-over (suc p.k) q.k later (omega (arith, b.piece)), right-query p.k a.piece)
+        go (yes later) = omega (arith, rises-over (suc p.k) q.k later (omega (arith, b.piece)), right-mark p.k a.piece)
         go (no next) =
             let e : suc p.k ≡ q.k = omega arith in
-            let met : mark scans p.k + D (piece_of scans p.k) ≡ mark scans q.k = right-query p.k a.piece ∙ ap (mark scans) e in
+            let met : mark scans p.k + D (piece_of scans p.k) ≡ mark scans q.k = right-mark p.k a.piece ∙ ap (mark scans) e in
             true≢false (sym (a.end (omega arith)) ∙ ap to_left e ∙ b.start (omega arith))
 
   pub lies-one : (to_left : ℕ → Bool) (x : ℕ) (p q : Place) → Lies scans to_left x p → Lies scans to_left x q → p ≡ q
@@ -97,7 +96,7 @@ module _ (scans : List Scan) (st : Standing scans) where
   pub lies_in : (x k : ℕ) → suc k < length scans → mark scans k ≤ x → x ≤ mark scans (suc k) →
       (mark scans (suc k) ≤ x → suc (suc k) ≡ length scans) → Lies scans (is_last scans) x (place_in scans x k)
   lies_in x k h f t last =
-      let met = right-query k h in record {
+      let met = right-mark k h in record {
         piece = h;
         distance = omega arith;
         within = omega arith;
@@ -111,7 +110,7 @@ module _ (scans : List Scan) (st : Standing scans) where
   lies-here x k c h f later true q =
       let before : x < mark scans (suc k) = ltb-true x (mark scans (suc k)) q in
       lies_in x k h f (omega arith) (λ g. absurd (omega arith))
-  lies-here x k c h f later false q = later (ltb_false x (mark scans (suc k)) q)
+  lies-here x k c h f later false q = later (ltb-false x (mark scans (suc k)) q)
 
   lies-from : (x k c : ℕ) → k + (c + 2) ≡ length scans → mark scans k ≤ x → x ≤ mark scans (length scans - 1) →
       Lies scans (is_last scans) x (place_in scans x (first_past scans x k c))
@@ -136,7 +135,7 @@ module _ (scans : List Scan) (st : Standing scans) where
       let next : suc (k - 1) ≡ k = omega arith in
       let h : suc (k - 1) < length scans = omega (arith, a.piece) in record {
         piece = h;
-        distance = right-query (k - 1) h ∙ ap (mark scans) next ∙ sym on;
+        distance = right-mark (k - 1) h ∙ ap (mark scans) next ∙ sym on;
         within = omega arith;
         start = λ z. absurd (omega (arith, st.gap_at_least (k - 1) h));
         end = λ z. rw (next, lone) (or-true (is_last scans k));

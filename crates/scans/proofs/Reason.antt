@@ -1,6 +1,6 @@
 -- Request 6/14: what the reason of a call is, as far as its causes were looked at; and that it is the first product of the call's sequence
 -- that exceeds the limit.
-use borrow.Author.Tests.{ltb-true, ltb_false}
+use borrow.Author.Tests.{ltb-true, ltb-false}
 use mathlib.Core.Bool.{Bool, true, false, cond, true≢false}
 use mathlib.Core.List.{List, [], ◌∷◌, ◌++◌}
 use mathlib.Core.Option.{Option, none, some, some-ne-none, some-injective}
@@ -90,5 +90,5 @@ first-named (p ∷ ps) spot e = go (exceeds p) refl e (first-named ps spot)
     }
       where
         one_more : (rest : First ps spot) (i : ℕ) → i < length (p ∷ rest.earlier) → (get_or (p ∷ rest.earlier) i rest.named).size ≤ size_max
-        one_more rest zero h = ltb_false size_max p.size kept
+        one_more rest zero h = ltb-false size_max p.size kept
         one_more rest (suc i) h = rest.earlier_kept i (omega arith)

@@ -1,5 +1,5 @@
 -- The first product that is too large: of one list, of two sequences one after the other, and of a knot as far as its neighbours are known.
-use borrow.Author.Tests.{lt-ltb, le-ltb, ltb_false}
+use borrow.Author.Tests.{lt-ltb, le-ltb, ltb-false}
 use mathlib.Core.Bool.{Bool, true, false, cond, true≢false}
 use mathlib.Core.List.{List, [], ◌∷◌, ◌++◌}
 use mathlib.Core.Option.{Option, none, some}
@@ -51,7 +51,7 @@ module _ (f : ℕ → Product) where
   kept_orders i zero e j a b = absurd (omega arith)
   kept_orders i (suc c) e j a b =
       let kept = none_passes exceeds (λ p. p.spot) (orders_from f i (suc c)) e in
-      go (ℕ_discrete j i) (ltb_false size_max (f i).size kept.0)
+      go (ℕ_discrete j i) (ltb-false size_max (f i).size kept.0)
       (λ l. kept_orders (suc i) c (no_first exceeds (λ p. p.spot) (orders_from f (suc i) c) kept.1) j l (omega arith))
     where
       go : Dec (j ≡ i) → (f i).size ≤ size_max → (suc i ≤ j → (f j).size ≤ size_max) → (f j).size ≤ size_max
