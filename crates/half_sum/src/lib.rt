@@ -1,4 +1,6 @@
 // Half-sums in machine integers: rounds of running sums, and the steps.
+#![tactic(auto)]
+
 mod running;
 mod steps;
 

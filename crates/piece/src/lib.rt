@@ -1,4 +1,6 @@
 // One piece in machine integers: its value and trend.
+#![tactic(auto)]
+
 mod curve;
 mod slope;
 

@@ -12,7 +12,7 @@ use rounding::POSITION_UNIT;
 
 // D = 256 × h, and its reciprocal in parts of 2^64, 2^64 / D + 1, which is 2^56 / h + 1. This is the only division
 // that a piece's value or trend makes.
-#[derive(Drop)]
+#[derive(Clone, Copy)]
 pub struct Divisor {
     pub d: u64,
     reciprocal: u64,
@@ -48,7 +48,7 @@ fn high_product(x: u64, y: u64) -> u64
 // A fraction a/d from 0 to 1, prepared for many scalings: a × 2^32 = whole × d + rest, with a rest below d. The bias is
 // a multiple of d that lifts what a scaling divides above 0, and half of d more: what is then rounded down is the
 // nearest, halves up.
-#[derive(Drop)]
+#[derive(Clone, Copy)]
 pub struct Fraction {
     pub a: u64,
     pub d: u64,

@@ -1,4 +1,6 @@
 // Scaling in machine integers, to the nearest.
+#![tactic(auto)]
+
 mod fraction;
 
 pub use fraction::{Divisor, Fraction, scaled, scaled_times};

@@ -1,4 +1,6 @@
 // One piece in machine integers: its total, by the table of integral weights.
+#![tactic(auto)]
+
 mod integral;
 mod table;
 

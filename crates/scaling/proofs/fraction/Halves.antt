@@ -1,7 +1,7 @@
 -- A scaling by the halves of u, of 32 bits each: what each step makes, and that it fits in 64 bits.
 use mathlib.Core.Path.{◌≡◌, sym, ap}
 use Prim.Native.Nat.{ℕ, zero, suc, ◌+◌, ◌*◌, ◌-◌, ◌/◌, ◌%◌, ◌^◌, ◌≤◌, ◌<◌}
-use native.Mathlib.Nat.{div-add-mod', mod_lt, div-le_self, mul-le-mul, le_of_mul-le-mul_right}
+use native.Mathlib.Nat.{div-add-mod', mod-lt, div-le_self, mul-le-mul, le_of_mul-le-mul_right}
 use native.Mathlib.Omega.{arith}
 use lib.Dec.{lit<}
 use lib.IntN.{ℤ, pos, negsuc, neg_ℤ, ◌+ℤ◌, ◌-ℤ◌, ◌*ℤ◌}
@@ -27,7 +27,7 @@ abbrev pub low : ℤ → ℕ
 low u = of_z w64 u % 2 ^ 32
 
 pub low_below : (u : ℤ) → low u < 2 ^ 32
-low_below u = mod_lt (of_z w64 u) (lit< tt)
+low_below u = mod-lt (of_z w64 u) (lit< tt)
 
 halves : (u : ℤ) → Within (2 ^ 63 - 1) u → u ≡ high u *ℤ pos (2 ^ 32) +ℤ pos (low u)
 halves (pos n) w = ap pos (sym (div-add-mod' n (2 ^ 32)))

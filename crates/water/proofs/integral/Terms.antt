@@ -42,7 +42,8 @@ module _ (c : List ℕ) (w : List ℤ) (entries : Entries c) (weights : Weights 
       let terms : m + 1 ≤ 8 = omega arith in
       within-fits w64 (sum m (term c w)) (lit< tt)
       (within-sum size_max (8 * water_unit) m (λ j. get_or c j 0) (term c w)
-      (le_trans (shares-most water_unit m (λ j. get_or c j 0) (λ j k. entries.small j)) (mul-le-mul_right water_unit terms)) (λ j k. term-within j (omega arith)))
+      (le_trans (shares-most water_unit m (λ j. get_or c j 0) (λ j k. entries.small j)) (mul-le-mul_right water_unit terms))
+      (λ j k. term-within j (omega arith)))
 
   -- the sum with one term more
   pub machine_sum : (x : ℤ) (j : ℕ) → j + 1 ≤ 7 → x ≡ sum j (term c w) →
