@@ -1,4 +1,6 @@
 // Reading blocks.
+#![tactic(auto)]
+
 mod reader;
 
 pub use reader::{Contents, read};

@@ -17,7 +17,7 @@ use word_faults::{count_readings, end_fault, header_fault, knot_fault, length_fa
 
 // The number of the first fault, 0 where there is none; then the first `count` knots are the list. And of 6 what is too
 // large.
-#[derive(Drop)]
+#[derive(Clone, Copy)]
 pub struct Contents {
     pub knots: [Knot; KNOTS_MAX],
     pub count: usize,

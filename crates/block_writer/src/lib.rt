@@ -1,4 +1,6 @@
 // Writing blocks.
+#![tactic(auto)]
+
 mod writer;
 
 pub use writer::{length, write};

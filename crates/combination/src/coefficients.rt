@@ -10,6 +10,7 @@ use magnitude::magnitude;
 
 // One coefficient as a knot holds it. One above 2^28 in size breaks the size rule at every gap; it is tested before it
 // is narrowed, and 2^28 + 1 stands for it, which breaks the rule at every gap too: so the same order is named.
+#[tactic(auto, using(crate::proofs::Formed::coefficient_laws))]
 fn coefficient(alpha: i32, a: i32, beta: i32, b: i32) -> i32
     requires { (Within multiplier_max alpha) × (Within multiplier_max beta) }
     ensures { result ≡ limited (alpha *ℤ a +ℤ beta *ℤ b) }

@@ -1,4 +1,6 @@
 // The sum of two lists of knots, each multiplied by a whole number.
+#![tactic(auto)]
+
 mod coefficients;
 mod sum;
 

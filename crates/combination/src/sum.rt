@@ -15,7 +15,7 @@ use knot::{KNOTS_MAX, Knot, MULTIPLIER_MAX, Reason, Refusal, Verdict};
 use magnitude::magnitude;
 
 // What is found of a sum: the first cause that refuses it, or else its knots; and of 6 what is too large.
-#[derive(Drop)]
+#[derive(Clone, Copy)]
 pub struct Sum {
     pub knots: [Knot; KNOTS_MAX],
     pub verdict: Verdict,

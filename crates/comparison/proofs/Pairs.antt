@@ -3,8 +3,7 @@
 use mathlib.Core.Bool.{Bool, true, false}
 use mathlib.Core.List.{List, []}
 use mathlib.Core.Path.{◌≡◌, sym, ◌∙◌}
-use Prim.Native.Nat.{ℕ, ◌+◌, ◌≤◌, ◌<◌}
-use native.Mathlib.Decide.{ℕ_discrete}
+use Prim.Native.Nat.{ℕ, ◌≤◌, ◌<◌}
 use native.Mathlib.Omega.{arith}
 use lib.Dec.{eqb}
 use lib.IntN.{ℤ, pos}
@@ -18,14 +17,6 @@ use Rattle.scans.specs.Scan.{Scan, scan_of}
 use Rattle.knot.specs.Machine.{Filled, knot_in, scan, scans_in}
 use Rattle.knot.specs.declared.held.Knot.{Knot}
 use Rattle.knot.proofs.Lists.{length-scans, at_scans}
-
--- what passes below k, and at k, passes below k + 1
-pub next_passes : (f : ℕ → Bool) (k : ℕ) → ((j : ℕ) → j < k → f j ≡ true) → f k ≡ true → (j : ℕ) → j < k + 1 → f j ≡ true
-next_passes f k below here j h = go (ℕ_discrete j k)
-  where
-    go : Dec (j ≡ k) → f j ≡ true
-    go (yes e) = rw e here
-    go (no e) = below j (omega arith)
 
 module _ (test : Scan → Scan → Bool) (knots others : List Knot) where
   -- the knots at place i pass

@@ -1,4 +1,6 @@
 // Whether two lists of knots are the same, as the call Same asks, or at least have the same positions and grades.
+#![tactic(auto)]
+
 mod alignment;
 mod knots;
 

@@ -13,7 +13,6 @@ use Rattle.scans.proofs.Reason.{other-reason, size-reason}
 use Rattle.knot.specs.Machine.{Holds, refusal, spot_in}
 use Rattle.knot.specs.declared.reason.Reason.TheVariants as Reasons
 use Rattle.knot.specs.declared.table.Verdict.{Verdict}
-use Rattle.knot.specs.declared.table.Verdict.TheVariants as Verdicts
 use Rattle.first_cause.specs.Machine.{Finds}
 use Rattle.first_cause.specs.declared.changes.Found.{Found}
 

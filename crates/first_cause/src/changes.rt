@@ -10,7 +10,7 @@ use following::{Neighbour, follow_reason, list_cause, position_cause, size_reaso
 use knot::{KNOTS_MAX, Knot, Reason, Refusal, Verdict};
 
 // The first cause that holds; the new knot, if none does, or else any knot; and of 6 what is too large.
-#[derive(Drop)]
+#[derive(Clone, Copy)]
 pub struct Found {
     pub verdict: Verdict,
     pub knot: Knot,

@@ -1,5 +1,7 @@
 // The first cause that refuses a call: of append, correct and the queries, all causes in their order, of numbers and
 // single knots.
+#![tactic(auto)]
+
 mod changes;
 mod queries;
 

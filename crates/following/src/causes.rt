@@ -9,7 +9,7 @@ ghost use Rattle.following.specs.Machine.{CloseAfter, CloseBefore, neighbour};
 use knot::{COEFFICIENTS_MAX, GAP_MAX, Knot, POSITION_MAX, Reason, Refusal, Verdict, gap};
 
 // The knot beside a place of the list, if there is one; if not, any knot.
-#[derive(Drop)]
+#[derive(Clone, Copy)]
 pub struct Neighbour {
     pub there: bool,
     pub knot: Knot,

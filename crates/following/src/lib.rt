@@ -1,4 +1,6 @@
 // What refuses a knot after another, and what is too large of a knot between its neighbours.
+#![tactic(auto)]
+
 mod causes;
 
 pub use causes::{Neighbour, follow_reason, list_cause, position_cause, size_reason};

@@ -11,7 +11,7 @@ use crate::reason::Reason;
 use crate::size::list_reason;
 
 // The coefficients past the grade are free: no promise speaks of them.
-#[derive(Drop)]
+#[derive(Clone, Copy)]
 pub struct Knot {
     pub position: u16,
     pub grade: u8,

@@ -1,4 +1,6 @@
 // A knot, the size rule of one list, the limits, the refusals, and the reason of a 6.
+#![tactic(auto)]
+
 mod held;
 mod limits;
 mod reason;

@@ -6,7 +6,7 @@ ghost use Rattle.knot.specs.Machine.{refusal, spot_in};
 use crate::table::{Refusal, Verdict};
 
 // The knot, the order j and the gap of a product |C_j| × h^j.
-#[derive(Drop)]
+#[derive(Clone, Copy)]
 pub struct Spot {
     pub knot: u32,
     pub order: u32,
@@ -15,7 +15,7 @@ pub struct Spot {
 
 // What is found of products in their sequence: the first that is too large, or nothing. A question for the reason of a
 // 6 has nothing also where the call is not refused with 6.
-#[derive(Drop)]
+#[derive(Clone, Copy)]
 pub enum Reason {
     Nothing,
     TooLarge(Spot),

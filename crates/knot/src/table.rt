@@ -2,7 +2,7 @@
 ghost use Rattle.std.specs.Prelude.{◌≡◌, ◌≤◌};
 ghost use Rattle.knot.specs.Machine.{Numbers, number as number_of, refusal};
 
-#[derive(Drop)]
+#[derive(Clone, Copy)]
 pub enum Refusal {
     // of a block: its length, a word's kind, the edition, spare bits, the end count, words missing or over
     Form,
@@ -81,7 +81,7 @@ impl Refusal {
 }
 
 // What is found of some causes: that none holds, or the first that does.
-#[derive(Drop)]
+#[derive(Clone, Copy)]
 pub enum Verdict {
     Passed,
     Refused(Refusal),

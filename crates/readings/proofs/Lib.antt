@@ -1,3 +1,2 @@
 mod Strided
-mod Types
-mod Walks
+mod Spans

@@ -13,7 +13,7 @@ use word::{edition, grade, load, reading};
 use word_faults::count_readings;
 
 // The word of a knot's first reading, and how many readings it has.
-#[derive(Drop)]
+#[derive(Clone, Copy)]
 struct Span {
     start: usize,
     count: usize,
@@ -41,7 +41,7 @@ fn span_of(block: &[u8], k: usize) -> Span
 
 // The readings that a view shows: from word `start` on every n-th, `count` of them; and the number of the first cause,
 // 0 where there is none.
-#[derive(Drop)]
+#[derive(Clone, Copy)]
 pub struct Selection {
     pub start: u32,
     pub count: u32,
@@ -87,7 +87,7 @@ pub fn select(block: &[u8], k: u32, n: u32) -> Selection
 }
 
 // What a view answers where a reading is asked for: the reading, or that this is past its last.
-#[derive(Drop)]
+#[derive(Clone, Copy)]
 pub enum Shown {
     Reading(u16),
     Past,

@@ -1,4 +1,6 @@
 // The workshop's view of the readings of one knot of a block.
+#![tactic(auto)]
+
 mod finding;
 mod view;
 

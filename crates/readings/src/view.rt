@@ -6,7 +6,7 @@ ghost use Rattle.readings.specs.Machine.{Sees, Views, reading_shown, shows};
 use crate::finding::{Shown, select, shown_at};
 
 // From word `start` on every `stride`-th, `count` of them; and the number of the cause for which it shows none, or 0.
-#[derive(Drop)]
+#[derive(Clone, Copy)]
 pub struct View<'a> {
     bytes: &'a [u8],
     start: u32,
@@ -53,7 +53,7 @@ impl<'a> View<'a> {
 }
 
 // What a view says: its refusal, how many readings it shows, and the i-th.
-#[derive(Drop)]
+#[derive(Clone, Copy)]
 pub struct Seen {
     pub refusal: u32,
     pub count: u32,

@@ -2,7 +2,7 @@
 -- the promise. So are those of same, of the sum and of the questions for a reason what is promised of them. A contract that says less is
 -- refused here.
 use contract.Lifetimes.{Lfts}
-use denote.Ref.{Bor}
+use Rattle.std.specs.Borrow.{Bor, MutBor}
 use mathlib.Core.Bool.{Bool}
 use mathlib.Core.List.{List, []}
 use mathlib.Core.Path.{◌≡◌}
@@ -63,7 +63,7 @@ module _ (given : Reel) (handed : Handed) (held : Held given) where
       reply_of handed.answer ≡ accepted → edition_of bytes.now ≡ plain_edition → block (scans handed.reel) ≡ bytes.now
   read_again κs bytes contract = (contract held).1
 
-  pub write_does : (κs : Lfts 1) (out after : Bor (List ℕ)) →
+  pub write_does : (κs : Lfts 1) (out after : MutBor (List ℕ)) →
       (write-reads.Pre κs (given, (out, tt)) → write-reads.Post κs (given, (out, tt)) handed (given, (after, tt))) →
       Does (write out.now) given handed.answer handed.reel after.now
   write_does κs out after contract = contract held

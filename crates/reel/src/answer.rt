@@ -3,7 +3,7 @@ use crate::held::Reel;
 use knot::Refusal;
 
 // What a call answers.
-#[derive(Drop)]
+#[derive(Clone, Copy)]
 pub enum Answer {
     Accepted,
     Number(i64),
@@ -11,7 +11,7 @@ pub enum Answer {
 }
 
 // The reel that a call leaves, and its answer. The reel stands first: that saves a copy of it.
-#[derive(Drop)]
+#[derive(Clone, Copy)]
 pub struct Handed {
     pub reel: Reel,
     pub answer: Answer,

@@ -17,13 +17,15 @@ use first_cause::{append_cause, correct_cause, query_cause, range_cause};
 use knot::{COEFFICIENTS_MAX, KNOTS_MAX, Knot, Refusal, Verdict};
 
 // The first `count` knots are the list; the others are free.
-#[derive(Drop)]
+#[derive(Clone, Copy)]
 pub struct Reel {
     pub(crate) knots: [Knot; KNOTS_MAX],
     pub(crate) count: usize,
 }
 
 impl Reel {
+    ghost use Rattle.reel.specs.declared.held.TheConstants.Reel.{GAP_MAX, GRADE_MAX, KNOTS_MAX, SIZE_MAX};
+
     pub const KNOTS_MAX: usize = KNOTS_MAX;
 
     pub const GAP_MAX: u64 = knot::GAP_MAX;
@@ -35,8 +37,8 @@ impl Reel {
     // The reel of no knots. The constants are document 01's limits.
     pub fn empty() -> Self
         ensures held { (Held result) × (scans result ≡ []) }
-        ensures* fact { do ⌜ ((← (⟦Reel::KNOTS_MAX⟧).entry) ≡ knots_max) × ((← (⟦Reel::GAP_MAX⟧).entry) ≡ gap_max) ⌝ }
-        ensures* fact_2 { do ⌜ ((← (⟦Reel::GRADE_MAX⟧).entry) ≡ grade_max) × ((← (⟦Reel::SIZE_MAX⟧).entry) ≡ size_max) ⌝ }
+        ensures knots_and_gap { (KNOTS_MAX ≡ knots_max) × (GAP_MAX ≡ gap_max) }
+        ensures grade_and_size { (GRADE_MAX ≡ grade_max) × (SIZE_MAX ≡ size_max) }
     {
         let coefficients = [0i32; COEFFICIENTS_MAX];
         let free = Knot {
@@ -120,7 +122,7 @@ impl Reel {
     pub fn read(mut self, bytes: &[u8]) -> Handed
         requires { Held self }
         ensures does { Does (Calls.read bytes.now) self result.answer result.reel [] }
-        ensures reel_value { reply_of result.answer ≡ accepted → edition_of bytes.now ≡ plain_edition →
+        ensures again { reply_of result.answer ≡ accepted → edition_of bytes.now ≡ plain_edition →
             block (scans result.reel) ≡ bytes.now }
     {
         let contents = block_reader::read(bytes);

@@ -1,4 +1,6 @@
 // The held reel with its calls, and the reasons of a 6.
+#![tactic(auto)]
+
 mod answer;
 mod held;
 mod index;

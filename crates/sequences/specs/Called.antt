@@ -1,6 +1,6 @@
 -- Document 01, "Sequences and standing scans": its calls, each as far as its function's own contract says.
 use contract.Lifetimes.{Lfts}
-use Rattle.std.specs.Borrow.{Bor}
+use Rattle.std.specs.Borrow.{Bor, MutBor}
 use Rattle.std.specs.Prelude.{List, [], ℕ, ℤ}
 use Rattle.calls.specs.Calls.{Call, clear, append, correct, read, write, value, trend, total}
 use Rattle.reel.specs.declared.held.Reel.{Reel}
@@ -45,7 +45,7 @@ pub data Called : Call → Reel → Outcome → Reel → Type 0 where
       (read-reads.Pre κs (given, (bytes, tt)) →
       read-reads.Post κs (given, (bytes, tt)) handed (given, (bytes, tt))) →
       Called (read bytes.now) given (outcome handed []) handed.reel
-  by_write : (κs : Lfts 1) (given : Reel) (out after : Bor (List ℕ)) (handed : Handed) →
+  by_write : (κs : Lfts 1) (given : Reel) (out after : MutBor (List ℕ)) (handed : Handed) →
       (write-reads.Pre κs (given, (out, tt)) →
       write-reads.Post κs (given, (out, tt)) handed (given, (after, tt))) →
       Called (write out.now) given (outcome handed after.now) handed.reel

@@ -1,4 +1,6 @@
 // The words of a block: their fields by shifts and masks, and their bytes.
+#![tactic(auto)]
+
 mod buffer;
 mod masks;
 

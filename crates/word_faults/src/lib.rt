@@ -1,4 +1,6 @@
 // The faults of a block, each at its place, and the readings of one knot.
+#![tactic(auto)]
+
 mod faults;
 mod readings;
 

@@ -9,7 +9,7 @@ use block::READINGS_EDITION;
 use word::load;
 
 // What is found of them: the number of the first fault, 0 where there is none; then there are `count`.
-#[derive(Drop)]
+#[derive(Clone, Copy)]
 pub struct Counted {
     pub count: usize,
     pub refusal: u32,

@@ -252,9 +252,9 @@ too_large r found scans six f first is room count = record {
 }
 
 -- another number
-pub refuses : (r : Contents) (found here : Option ℕ) (scans : List Scan) → Numbers r.refusal here → here ≡ some r.refusal → found ≡ some r.refusal →
-    length r.knots ≡ knots_max → r.count ≤ knots_max → r.reason ≡ Reasons.Nothing → reason here (turn_products 0 none scans) ≡ none → Reads r found scans
-refuses r found here scans numbered e f room count is other = record {
+pub refuses : (r : Contents) (found cause : Option ℕ) (scans : List Scan) → Numbers r.refusal cause → cause ≡ some r.refusal → found ≡ some r.refusal →
+    length r.knots ≡ knots_max → r.count ≤ knots_max → r.reason ≡ Reasons.Nothing → reason cause (turn_products 0 none scans) ≡ none → Reads r found scans
+refuses r found cause scans numbered e f room count is other = record {
   number = record { known = numbered.known; is = numbered.is ∙ e ∙ sym f };
   room = room;
   count = count;

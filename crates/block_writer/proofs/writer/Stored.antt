@@ -8,7 +8,7 @@ use native.Mathlib.Omega.{arith}
 use lib.IntN.{ℤ, pos}
 use lib.ListN.{length, take, drop, get_or, length-append, length-map, drop_of_length-le}
 use lib.Seq.{sets, sets-eq, length-sets, drop-cons, get_or-take}
-use Rattle.scans.specs.Scan.{at, grade}
+use Rattle.scans.specs.Scan.{grade}
 use Rattle.knot.specs.Machine.{scan, Graded, Filled, knot_in, scans_in}
 use Rattle.knot.specs.declared.held.Knot.{Knot}
 use Rattle.knot.proofs.Lists.{length-scans, at_scans, list_length, scan-grade}
@@ -154,7 +154,8 @@ module _ (before : List ℕ) (knots : List Knot) (n : ℕ) where
         let ends : w ≡ end_word (length (open_words scans)) = end ∙ ap end_word count in
         let last_word = end_word (length (open_words scans)) ∷ [] in
         let opened : Left l 0 (block_words scans) before 1 (knots_words scans ++ last_word) =
-        fewer-left (header_word (length scans) plain_edition ∷ []) (knots_words scans ++ last_word) (all_left l 0 (block_words scans)) (rw header at first) refl in
+        fewer-left (header_word (length scans) plain_edition ∷ []) (knots_words scans ++ last_word)
+        (all_left l 0 (block_words scans)) (rw header at first) refl in
         let filled : Left l 0 (block_words scans) out i last_word = fewer-left (knots_words scans) last_word opened (all-knots h) place in
         let closed : Left l 0 (block_words scans) out' (i + 1) [] = fewer-left last_word [] filled (rw ends at last) refl in
         closed.whole ∙ sets-eq (block scans) l 0 (omega (arith, fits)) ∙ ap (λ m. block scans ++ drop m l) (zero-add (length (block scans)))

@@ -1,5 +1,5 @@
 -- The causes that are found of a held reel's knots are those of its scans; and what holds where no cause of a call does.
-use borrow.Author.Tests.{ltb_false, leb-false}
+use borrow.Author.Tests.{ltb-false, leb-false}
 use mathlib.Core.List.{List}
 use mathlib.Core.Option.{Option, none, some, some-ne-none}
 use mathlib.Core.Path.{◌≡◌, refl, sym, ◌∙◌, ap}
@@ -43,7 +43,7 @@ both_nine t A B P Q s u a b f = record {
 
 module _ (r : Reel) (held : Held r) where
   pub append-room : (x : ℕ) (C : List ℤ) → first (causes (append x C) (scans r)) ≡ none → r.count < knots_max
-  append-room x C e = omega (arith, ltb_false knots_max (length (scans r) + 1) (quiet (causes (append x C) (scans r)) e).0, length-scans r held)
+  append-room x C e = omega (arith, ltb-false knots_max (length (scans r) + 1) (quiet (causes (append x C) (scans r)) e).0, length-scans r held)
 
   pub append_finds : (i x : ℕ) (C : List ℤ) (t : Found) → i ≡ r.count - 1 →
       FindsAppended t r.count (beside (ltb 0 r.count) (knot_at r i)) (scan_of x C) →
