@@ -1,4 +1,6 @@
 // What stands on a line of a script: fields, numbers in decimal and bytes in hexadecimal.
+#![tactic(auto)]
+
 mod field;
 mod hex;
 mod number;

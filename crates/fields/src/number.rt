@@ -10,7 +10,7 @@ const SIGNED_MAX: u64 = 0x7fff_ffff;
 
 const SIGNED_LEAST: u64 = 0x8000_0000;
 
-#[derive(Drop)]
+#[derive(Clone, Copy)]
 pub struct Number {
     pub negative: bool,
     pub magnitude: u32,
@@ -61,7 +61,7 @@ pub fn number_at(line: &[u8], at: usize, most: u64, least: u64) -> Number
 }
 
 // A number with a sign, and where the next field starts.
-#[derive(Drop)]
+#[derive(Clone, Copy)]
 pub struct Signed {
     pub value: i32,
     pub next: usize,

@@ -1,10 +1,12 @@
-// One case: its fields, and its answers on standard output.
+// One case: its fields, and its answers.
 ghost use Rattle.std.specs.Prelude.{◌≡◌, ◌+◌, ◌<◌, length};
 ghost use Rattle.rounding.specs.Limits.{grade_max};
 
 use super::admit::admitted;
 use super::number::number;
 use knot::COEFFICIENTS_MAX;
+use std::io;
+use std::io::Write;
 use word::load;
 
 // A magnitude below 2^31, and 2^31 more for a negative number.
@@ -31,18 +33,18 @@ fn coefficients(bytes: &[u8], from: usize) -> [i32; COEFFICIENTS_MAX]
 }
 
 // Value, trend and total; `refused` where the piece cannot be one of a reel, which no stored case is.
-fn answer(h: u64, left: &[i32], right: &[i32], r: u64) {
+fn answer<W: Write>(out: &mut W, h: u64, left: &[i32], right: &[i32], r: u64) -> io::Result<()> {
     if admitted(h, left, right, r) {
-        number(piece::value(h, left, right, r), b" ");
-        number(piece::trend(h, left, right, r), b" ");
-        number(water::total(h, left, right), b"\n");
+        number(out, piece::value(h, left, right, r), b" ")?;
+        number(out, piece::trend(h, left, right, r), b" ")?;
+        number(out, water::total(h, left, right), b"\n")
     } else {
-        io::write_all(1, b"refused\n");
+        out.write_all(b"refused\n")
     }
 }
 
 // Answers the case in these bytes; one with more than 8 coefficients at an end is passed over.
-pub fn run(bytes: &[u8]) {
+pub fn run<W: Write>(out: &mut W, bytes: &[u8]) -> io::Result<()> {
     let h = load(bytes, 0) as u64;
     let left_count = load(bytes, 1) as usize;
     let right_count = load(bytes, 2) as usize;
@@ -50,10 +52,10 @@ pub fn run(bytes: &[u8]) {
     let left = coefficients(bytes, 4);
     let right = coefficients(bytes, 12);
     if COEFFICIENTS_MAX < left_count {
-        return;
+        return Ok(());
     }
     if COEFFICIENTS_MAX < right_count {
-        return;
+        return Ok(());
     }
-    answer(h, &left[..left_count], &right[..right_count], r);
+    answer(out, h, &left[..left_count], &right[..right_count], r)
 }

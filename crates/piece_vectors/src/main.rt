@@ -2,22 +2,30 @@
 // total. A case is 20 words of 32 bits, low byte first: h, the number of left coefficients, that of right ones, r, and
 // 8 left and 8 right coefficients, each a magnitude with 2^31 more where it is negative; those past the numbers are not
 // used.
+#![tactic(auto)]
+
 mod admit;
 mod case;
 mod number;
 
+use input::read_full;
+use std::io;
+
 // More cases than are stored, so that the loop has an end.
 const CASES_MAX: usize = 65536;
 
-fn main() {
+fn main(rt: HostRuntime) -> io::Result<()> {
+    let mut from = rt.stdin();
+    let mut out = rt.stdout();
     let mut bytes = [0u8; 80];
     let mut i = 0;
     while i < CASES_MAX {
-        let got = io::read_full(0, &mut bytes);
+        let got = read_full(&mut from, &mut bytes)?;
         if got < 80 {
-            return;
+            return Ok(());
         }
-        case::run(&bytes);
+        case::run(&mut out, &bytes)?;
         i += 1;
     }
+    Ok(())
 }

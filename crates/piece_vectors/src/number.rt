@@ -1,10 +1,12 @@
-// Numbers on standard output.
+// Numbers as text.
+use std::io;
+use std::io::Write;
 use text::put_signed;
 
 // z in decimal, and what ends it.
-pub fn number(z: i64, end: &[u8]) {
+pub fn number<W: Write>(out: &mut W, z: i64, end: &[u8]) -> io::Result<()> {
     let mut digits = [0u8; 20];
     let n = put_signed(&mut digits, 0, z);
-    io::write_all(1, &digits[..n]);
-    io::write_all(1, end);
+    out.write_all(&digits[..n])?;
+    out.write_all(end)
 }

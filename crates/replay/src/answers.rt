@@ -1,75 +1,79 @@
-// What a line is answered, on standard output.
+// What a line is answered. Where the writer fails, so does the function, and there is no reel any more.
+ghost use Rattle.std.specs.Prelude.{IfOk};
 ghost use Rattle.reel.specs.Machine.{Held};
 
 use knot::Reason;
 use reel::{Answer, Handed, Reel};
+use std::io;
+use std::io::Write;
 use text::put_signed;
 
-pub fn say_unreadable() {
-    io::write_all(1, b"unreadable");
+pub fn say_unreadable<W: Write>(out: &mut W) -> io::Result<()> {
+    out.write_all(b"unreadable")
 }
 
-pub fn unreadable(reel: Reel) -> Reel
+pub fn unreadable<W: Write>(out: &mut W, reel: Reel) -> io::Result<Reel>
     requires { Held reel }
-    ensures { Held result }
+    ensures { IfOk result (λ r. Held r) }
 {
-    say_unreadable();
-    reel
+    say_unreadable(out)?;
+    Ok(reel)
 }
 
 // A number behind a space.
-fn say_field(number: u32) {
-    io::write_all(1, b" ");
-    io::print_decimal(1, number as u64);
+fn say_field<W: Write>(out: &mut W, number: u32) -> io::Result<()> {
+    write!(out, " {number}")
 }
 
 // The number of a refusal; of 6 also the knot, the order and the gap that broke the size rule, and of which list: a
 // knot has one, until request 8/14.
-pub fn refused(number: u32, reason: Reason) {
-    io::write_all(1, b"refused");
-    say_field(number);
+pub fn refused<W: Write>(out: &mut W, number: u32, reason: Reason) -> io::Result<()> {
+    out.write_all(b"refused")?;
+    say_field(out, number)?;
     if let Reason::TooLarge(spot) = reason {
-        say_field(spot.knot);
-        say_field(spot.order);
-        say_field(spot.gap);
-        io::write_all(1, b" whole");
+        say_field(out, spot.knot)?;
+        say_field(out, spot.order)?;
+        say_field(out, spot.gap)?;
+        out.write_all(b" whole")?;
     }
+    Ok(())
 }
 
 // What a call answered, with the reason of a 6. A number stands behind the word that asked for it, which ends before
 // the place `at`. Where the next field would not start past the line's end, the line is unreadable: what the call
 // handed back is dropped, and the reel goes on as it was.
-pub fn told(
+pub fn told<W: Write>(
+    out: &mut W,
     before: Reel,
     handed: Handed,
     reason: Reason,
     line: &[u8],
     at: usize,
     next: usize,
-) -> Reel
+) -> io::Result<Reel>
     requires { (Held before) × (Held handed.reel) }
-    ensures { Held result }
+    ensures { IfOk result (λ r. Held r) }
 {
     if next != line.len() + 1 {
-        return unreadable(before);
+        return unreadable(out, before);
     }
     let answer = handed.answer;
     match answer {
         Answer::Accepted => {
-            io::write_all(1, b"accepted");
+            out.write_all(b"accepted")?;
         }
         Answer::Number(z) => {
             // always so where a number is answered; the test is for the slice
             if at <= line.len() {
-                io::write_all(1, &line[0..at]);
+                out.write_all(&line[0..at])?;
             }
             let mut digits = [0u8; 20];
             let end = put_signed(&mut digits, 0, z);
-            io::write_all(1, &digits[0..end]);
+            out.write_all(&digits[0..end])?;
         }
         Answer::Refused(cause) => {
-            refused(cause.number(), reason);
+            refused(out, cause.number(), reason)?;
         }
     }
-    handed.reel
+    Ok(handed.reel)
 }

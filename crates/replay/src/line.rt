@@ -1,4 +1,5 @@
 // One line of a script: the call that its first word names, and its answer.
+ghost use Rattle.std.specs.Prelude.{IfOk};
 ghost use Rattle.reel.specs.Machine.{Held};
 
 use crate::answers::{told, unreadable};
@@ -10,23 +11,26 @@ use crate::words::{
 use fields::{END, LINE_MAX, UNSIGNED_MAX, number_at, symbol_at};
 use knot::Reason;
 use reel::Reel;
+use std::io;
+use std::io::Write;
 
 // The call that a word names; the fields after it start at a place. The first is read as a number, for the calls that
 // take one.
-fn called(reel: Reel, word: u64, line: &[u8], at: usize) -> Reel
+fn called<W: Write>(out: &mut W, reel: Reel, word: u64, line: &[u8], at: usize) -> io::Result<Reel>
     requires { Held reel }
-    ensures { Held result }
+    ensures { IfOk result (λ r. Held r) }
 {
     let x = number_at(line, at, UNSIGNED_MAX, 0);
     // of the calls that cannot answer 6
     let none = Reason::Nothing;
     match word {
-        CLEAR => told(reel, reel.clear(), none, line, at, at),
-        VALUE => told(reel, reel.value(x.magnitude), none, line, at, x.next),
-        TREND => told(reel, reel.trend(x.magnitude), none, line, at, x.next),
+        CLEAR => told(out, reel, reel.clear(), none, line, at, at),
+        VALUE => told(out, reel, reel.value(x.magnitude), none, line, at, x.next),
+        TREND => told(out, reel, reel.trend(x.magnitude), none, line, at, x.next),
         TOTAL => {
             let y = number_at(line, x.next, UNSIGNED_MAX, 0);
             told(
+                out,
                 reel,
                 reel.total(x.magnitude, y.magnitude),
                 none,
@@ -38,35 +42,35 @@ fn called(reel: Reel, word: u64, line: &[u8], at: usize) -> Reel
         READ => {
             let block = loaded(reel, line, at);
             let reason = block.reason;
-            told(reel, block.handed, reason, line, at, block.next)
+            told(out, reel, block.handed, reason, line, at, block.next)
         }
-        APPEND | CORRECT => listed(reel, word, x, line, at),
-        WRITE => write(reel, line, at),
-        SAME => same(reel, line, at),
-        COMBINE => combine(reel, line, at),
+        APPEND | CORRECT => listed(out, reel, word, x, line, at),
+        WRITE => write(out, reel, line, at),
+        SAME => same(out, reel, line, at),
+        COMBINE => combine(out, reel, line, at),
         VIEW => {
-            view(line, at);
-            reel
+            view(out, line, at)?;
+            Ok(reel)
         }
         VIEW_AT => {
-            view_at(line, at);
-            reel
+            view_at(out, line, at)?;
+            Ok(reel)
         }
-        _ => unreadable(reel),
+        _ => unreadable(out, reel),
     }
 }
 
 // The answer to a line. Those that are empty or begin with `#`, `=` or `~` are passed over. A line's word ends at its
 // first space; a line that is too long has none.
-pub fn answered(reel: Reel, line: &[u8]) -> Reel
+pub fn answered<W: Write>(out: &mut W, reel: Reel, line: &[u8]) -> io::Result<Reel>
     requires { Held reel }
-    ensures { Held result }
+    ensures { IfOk result (λ r. Held r) }
 {
     if line.len() == 0 {
-        return reel;
+        return Ok(reel);
     }
     match line[0] {
-        b'#' | b'=' | b'~' => return reel,
+        b'#' | b'=' | b'~' => return Ok(reel),
         _ => {}
     }
     let mut word = 1;
@@ -87,7 +91,7 @@ pub fn answered(reel: Reel, line: &[u8]) -> Reel
         }
         word = word * 100 + symbol as u64;
     }
-    let after = called(reel, word, line, end + 1);
-    io::write_all(1, b"\n");
-    after
+    let after = called(out, reel, word, line, end + 1)?;
+    out.write_all(b"\n")?;
+    Ok(after)
 }

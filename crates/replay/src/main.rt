@@ -1,6 +1,8 @@
 // The test program: a script of calls from standard input, one to a line, run on one reel that starts empty. It writes
 // an answer for each; docs/REPLAY.md has the lines. What it writes is compared, not proved: it promises that it is safe
 // for every script, and that the reel is held at every call.
+#![tactic(auto)]
+
 mod answers;
 mod line;
 mod reel_calls;
@@ -8,6 +10,11 @@ mod script;
 mod views;
 mod words;
 
-fn main() {
-    script::run();
+use std::io;
+use std::io::{BufWriter, Write};
+
+fn main(rt: HostRuntime) -> io::Result<()> {
+    let mut out = BufWriter::new(rt.alloc(), rt.stdout())?;
+    script::run(&mut rt.stdin(), &mut out)?;
+    out.flush()
 }

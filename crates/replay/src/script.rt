@@ -1,13 +1,16 @@
 // The script, read a buffer at a time, and run line by line.
 use crate::line::answered;
 use fields::{LINE_MAX, room};
+use input::{large_buffer, read_full};
 use reel::Reel;
+use std::io;
+use std::io::{Read, Write};
 
 // The bytes of a line are gathered until it ends, as far as there is room. The last line may lack its line feed.
-pub fn run() {
+pub fn run<R: Read, W: Write>(from: &mut R, out: &mut W) -> io::Result<()> {
     let mut line = room(0);
     let mut gathered = 0;
-    let mut buffer = io::large_buffer();
+    let mut buffer = large_buffer();
     let mut filled = 0;
     let mut at = 0;
     let mut reel = Reel::empty();
@@ -16,18 +19,20 @@ pub fn run() {
     while 0 < turns {
         turns -= 1;
         if at == filled {
-            filled = io::read_full(0, &mut buffer);
+            // what was answered so far is out before more is read
+            out.flush()?;
+            filled = read_full(from, &mut buffer)?;
             at = 0;
             if filled == 0 {
-                answered(reel, &line[0..gathered]);
-                return;
+                answered(out, reel, &line[0..gathered])?;
+                return Ok(());
             }
             continue;
         }
         let byte = buffer[at];
         at += 1;
         if byte == b'\n' {
-            reel = answered(reel, &line[0..gathered]);
+            reel = answered(out, reel, &line[0..gathered])?;
             gathered = 0;
             continue;
         }
@@ -36,4 +41,5 @@ pub fn run() {
             gathered += 1;
         }
     }
+    Ok(())
 }

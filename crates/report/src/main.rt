@@ -1,13 +1,17 @@
 // The reel report of a block from standard input.
-use block::BLOCK_MAX;
-use report_lines::report;
+#![tactic(auto)]
 
-fn main() {
+use block::BLOCK_MAX;
+use input::read_full;
+use report_lines::report;
+use std::io;
+
+fn main(rt: HostRuntime) -> io::Result<()> {
     // a byte more than a block can have shows that there are too many
     let mut bytes = [0u8; BLOCK_MAX + 1];
-    let n = io::read_full(0, &mut bytes);
+    let n = read_full(&mut rt.stdin(), &mut bytes)?;
     let told = report(&bytes[..n]);
     let length = told.length;
     let text = told.text;
-    io::write_all(1, &text[..length]);
+    rt.write_all(&text[..length])
 }

@@ -1,5 +1,5 @@
 -- What is found of a block: which of the report's causes comes first, by the limit and by what read does.
-use borrow.Author.Tests.{lt-ltb, le-ltb, ltb_false}
+use borrow.Author.Tests.{lt-ltb, le-ltb, ltb-false}
 use mathlib.Core.List.{List, [], ◌∷◌}
 use mathlib.Core.Option.{Option, none, some, some-ne-none}
 use mathlib.Core.Path.{◌≡◌, refl, sym, ◌∙◌}
@@ -63,5 +63,5 @@ module _ (bytes : List ℕ) (e : first (report_causes bytes) ≡ none) where
   pub two-knots : 2 ≤ length (list_of bytes)
   unfolding report_causes
   two-knots =
-      ltb_false (length (list_of bytes)) 2
+      ltb-false (length (list_of bytes)) 2
       (quiet-right (bad_form (ltb block_max (length bytes)) ∷ block_causes bytes) (too_few (length (list_of bytes)) ∷ []) (quiet (report_causes bytes) e)).0

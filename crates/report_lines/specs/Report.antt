@@ -57,7 +57,8 @@ refused_line n = 114 ∷ 101 ∷ 102 ∷ 117 ∷ 115 ∷ 101 ∷ 100 ∷ space +
 
 -- over 21,164 bytes (request 1/14): 1; then what read refuses; then fewer than two knots: 8
 unfoldable pub report_causes : List ℕ → List Cause
-report_causes bytes = bad_form (ltb block_max (length bytes)) ∷ block_causes bytes ++ too_few (length (list_of bytes)) ∷ []
+report_causes bytes =
+    bad_form (ltb block_max (length bytes)) ∷ block_causes bytes ++ too_few (length (list_of bytes)) ∷ []
 
 -- the number of the first of these, or a line for each piece and one for the reel
 abbrev pub reported : Option ℕ → List Scan → List ℕ

@@ -1,4 +1,6 @@
 // The reel report: from a block's bytes to the report's bytes.
+#![tactic(auto)]
+
 mod fields;
 mod lines;
 mod opened;

@@ -11,7 +11,7 @@ use knot::{Refusal, Verdict};
 use reel::{Answer, Reel};
 
 // The reel, if there is a report of it; if not, any reel.
-#[derive(Drop)]
+#[derive(Clone, Copy)]
 pub struct Opened {
     pub reel: Reel,
     pub verdict: Verdict,
@@ -39,6 +39,7 @@ fn verdict_of(answer: Answer, count: u32) -> Verdict
 }
 
 // The limit, then what read refuses, then 8.
+#[tactic(auto, using(crate::proofs::Opening::opens_over))]
 pub(crate) fn open_block(bytes: &[u8]) -> Opened
     ensures { Opens result bytes.now }
 {

@@ -5,7 +5,7 @@ ghost use Rattle.report_lines.specs.Machine.{room_max};
 // More than the longest report: 128 lines of at most 126 bytes and one of at most 47.
 const REPORT_MAX: usize = 16_384;
 
-#[derive(Drop)]
+#[derive(Clone, Copy)]
 pub struct Report {
     pub text: [u8; REPORT_MAX],
     pub length: usize,

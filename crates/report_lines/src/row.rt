@@ -7,7 +7,7 @@ ghost use Rattle.report_lines.specs.Machine.{Asks};
 use reel::{Answer, Reel};
 use rounding::POSITION_UNIT;
 
-#[derive(Drop)]
+#[derive(Clone, Copy)]
 pub struct Row {
     pub index: u32,
     pub from: u32,

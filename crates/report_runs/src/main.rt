@@ -1,9 +1,14 @@
 // Runs stored blocks: reads from standard input the length of each, 4 bytes with the low one first, and then its bytes,
 // and writes its report with an empty line behind it.
+#![tactic(auto)]
+
 ghost use Rattle.std.specs.Prelude.{◌≡◌, ◌≤◌, length};
 
 use block::BLOCK_MAX;
+use input::read_full;
 use report_lines::report;
+use std::io;
+use std::io::{Read, Write};
 
 // More blocks than are stored, so that the loop has an end.
 const BLOCKS_MAX: usize = 65_536;
@@ -18,31 +23,34 @@ fn block_room() -> [u8; ROOM_MAX]
 }
 
 // The report of the next block, of so many bytes.
-fn run(size: usize)
+fn run<R: Read, W: Write>(from: &mut R, out: &mut W, size: usize) -> io::Result<()>
     requires { size ≤ 21168 }
 {
     let mut block = block_room();
-    let n = io::read_full(0, &mut block[..size]);
+    let n = read_full(from, &mut block[..size])?;
     let told = report(&block[..n]);
     let length = told.length;
     let text = told.text;
-    io::write_all(1, &text[..length]);
-    io::write_all(1, b"\n");
+    out.write_all(&text[..length])?;
+    out.write_all(b"\n")
 }
 
-fn main() {
+fn main(rt: HostRuntime) -> io::Result<()> {
+    let mut from = rt.stdin();
+    let mut out = rt.stdout();
     let mut head = [0u8; 4];
     let mut i = 0;
     while i < BLOCKS_MAX {
-        let got = io::read_full(0, &mut head);
+        let got = read_full(&mut from, &mut head)?;
         if got < 4 {
-            return;
+            return Ok(());
         }
         let size = word::load(&head, 0) as usize;
         if ROOM_MAX < size {
-            return;
+            return Ok(());
         }
-        run(size);
+        run(&mut from, &mut out, size)?;
         i += 1;
     }
+    Ok(())
 }

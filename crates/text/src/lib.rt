@@ -1,4 +1,6 @@
 // Numbers and bytes as text, each put into a lent buffer from a place on; the answer is the place behind it.
+#![tactic(auto)]
+
 mod bytes;
 mod number;
 

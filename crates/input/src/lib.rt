@@ -1,0 +1,6 @@
+// Reading a stream into a lent buffer.
+#![tactic(auto)]
+
+mod full;
+
+pub use full::{large_buffer, read_full};
