@@ -4,10 +4,11 @@
   measure.py BEFORE [AFTER]   AFTER is the last commit where it is not named
 
 Each commit is copied to a folder of its own and gets the crate `measured` (measured/crate.py), which is proved and
-built as a library for C. One program (measured/timing.c) has both libraries. Times are taken from both in turn, 41
-times in each of three runs, and the least of each is told. Instructions are counted by callgrind, as the difference of
-n rounds and 2n. Copies are the calls of memcpy, counted by the linker's --wrap; what they take is told by a program
-that makes each of them twice. It takes some twelve minutes and wants an otherwise idle machine, with gcc and valgrind.
+built as a library for C. Both have to be of the toolchain that is installed. One program (measured/timing.c) has both
+libraries. Times are taken from both in turn, 41 times in each of three runs, and the least of each is told.
+Instructions are counted by callgrind, as the difference of n rounds and 2n. Copies are the calls of memcpy, counted by
+the linker's --wrap; what they take is told by a program that makes each of them twice. It takes some twelve minutes and
+wants an otherwise idle machine, with gcc and valgrind.
 """
 import random
 import re
@@ -49,9 +50,10 @@ def built(folder, side, commit):
     run("git", "clone", "--quiet", str(HERE.parent), str(repository))
     run("git", "checkout", "--quiet", commit, cwd=repository)
     put(repository, side)
-    run("rt", "staticlib", "measured", cwd=repository)
-    run("rt", "check", "report", cwd=repository)
-    return str(repository / "target" / "staticlib" / "libmeasured.a")
+    crates = repository / "crates"
+    run("rt", "lib", cwd=crates / "measured")
+    run("rt", "run", cwd=crates / "report", stdin=subprocess.DEVNULL)
+    return str(crates / "measured" / "out" / "libmeasured.a")
 
 
 def compiled(folder, libraries, name, *options):
@@ -166,7 +168,7 @@ def tell_reports(folder):
         found = []
         for side in SIDES:
             with open(folder / "full.block", "rb") as given:
-                found.append(counted(folder, folder / side / "target" / "bin" / "report", given=given))
+                found.append(counted(folder, folder / side / "crates" / "report" / "out" / "report", given=given))
         tell(f"grade {grade}", *[float(n) for n in (found[0][0], found[1][0], found[1][1])])
 
 

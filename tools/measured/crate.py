@@ -6,13 +6,14 @@ the last reel is written, so that the compiler can leave nothing out. Where a ca
 """
 
 HEAD = """// The engine's functions for C to call, to be measured.
-ghost use Prim.Native.Nat.{_*_, _≤_};
-ghost use Rattle·reel.specs.Machine.{Held};
-ghost use Rattle·rounding.specs.Piece.{piece, positionUnit};
-ghost use Rattle·rounding.specs.Size.{Admitted};
-use reel::Answer;
-use reel::Handed;
-use reel::Reel;
+#![tactic(auto)]
+
+ghost use Rattle.std.specs.Prelude.{◌*◌, ◌≤◌};
+ghost use Rattle.reel.specs.Machine.{Held};
+ghost use Rattle.rounding.specs.Piece.{piece, position_unit};
+ghost use Rattle.rounding.specs.Size.{Admitted};
+
+use reel::{Answer, Handed, Reel};
 
 fn number(answer: Answer) -> i64 {
     match answer {
@@ -39,7 +40,7 @@ fn told(refused: u32, gathered: i64) -> i64 {
 }
 
 fn opened(block: &[u8]) -> Reel
-    ensures { λ r. ⌜ Held r ⌝ }
+    ensures { Held result }
 {
     let empty = Reel::empty();
     let handed = empty.read(block);
@@ -48,9 +49,9 @@ fn opened(block: &[u8]) -> Reel
 """
 
 PIECE = """
-#[no_mangle]
+#[unsafe(no_mangle)]
 pub extern "C" fn {side}_{name}(h: u64, left: &[i32], right: &[i32], r: u64) -> i64
-    requires {{ ⌜ (Admitted (piece h (now left) (now right))) × (r ≤ positionUnit * h) ⌝ }}
+    requires {{ (Admitted (piece h left.now right.now)) × (r ≤ position_unit * h) }}
 {{
     {call}
 }}
@@ -58,13 +59,13 @@ pub extern "C" fn {side}_{name}(h: u64, left: &[i32], right: &[i32], r: u64) -> 
 
 TURN = """
 fn turn_{name}(reel: Reel, block: &[u8], list: &[i32], out: &mut [u8], x: u32, i: u32) -> Handed
-    requires {{ ⌜ Held reel ⌝ }}
-    ensures {{ λ r. ⌜ Held (r .reel) ⌝ }}
+    requires {{ Held reel }}
+    ensures {{ Held result.reel }}
 {{
     {call}
 }}
 
-#[no_mangle]
+#[unsafe(no_mangle)]
 pub extern "C" fn {side}_reel_{name}(block: &[u8], list: &[i32], out: &mut [u8], x: u32, rounds: u32) -> i64 {{
     let mut reel = opened(block);
     let mut gathered = 0;
@@ -84,22 +85,16 @@ pub extern "C" fn {side}_reel_{name}(block: &[u8], list: &[i32], out: &mut [u8],
 }}
 """
 
-PROOF = """use borrow.Author.Needs.{{needs}}
-use mathlib.Core.Path.{{_≡_}}
-use Prim.Native.Nat.{{_-_}}
-use lib.ListN.{{length}}
-use Rattle·reel.specs.Machine.{{Held}}
-use Rattle·measured·proofs.proofs.{side}_reel_{name}.Statement.{{statement}}
-use Rattle·measured·proofs.proofs.{side}_reel_{name}.Tie as tie
+INVARIANTS = """-- The reel that a turn hands to the next is held.
+use Rattle.std.proofs.Common.{{◌-◌}}
+use Rattle.reel.specs.Machine.{{Held}}
+use Rattle.measured.proofs.{side}_reel_{name}.Given as goal
 
-abbrev Inv-loop : tie.InvT-loop
-Inv-loop block list out₀ x rounds reel₀ gathered₀ refused₀ i₀ out reel gathered refused i = (Held reel) × (length out₀ ≡ length out)
+abbrev pub invariant-loop-i : goal.invariant-loop-i
+invariant-loop-i l = Held l.reel
 
-abbrev μ-loop : tie.MeasureT-loop
-μ-loop block list out₀ x rounds reel₀ gathered₀ refused₀ i₀ out reel gathered refused i = rounds - i
-{needs}
-pub {side}-reel-{name}-spec : {{M : Type 1}} → statement M
-{side}-reel-{name}-spec = tie.close (tie.spec Inv-loop μ-loop {names})
+abbrev pub decreases-loop-i : goal.decreases-loop-i
+decreases-loop-i l = l.rounds - l.i
 """
 
 PIECES = {
@@ -123,13 +118,6 @@ CALLS = {
 }
 
 
-def proof(side, name):
-    names = ["opened-requires", "loop-holds", f"turn-{name}-requires", "number-requires", "refusals-requires", "add-i"]
-    names += ["loop-less", "loop-again", "write-requires", "number-requires-2", "told-requires", "same-length", "returns"]
-    needs = [f"\n{n} : tie.Need-{n} Inv-loop μ-loop\n{n} c {'κs ' if 'requires' in n else ''}= search needs\n" for n in names]
-    return PROOF.format(side=side, name=name, needs="".join(needs), names=" ".join(names))
-
-
 def put(repository, side):
     """Puts the crate into a copy of the repository, with the name of the side before each function's."""
     crate = repository / "crates" / "measured"
@@ -139,9 +127,10 @@ def put(repository, side):
         text += PIECE.format(side=side, name=name, call=call)
     for name, call in CALLS.items():
         text += TURN.format(side=side, name=name, call=call)
-        (crate / "proofs" / f"{side}_reel_{name}").mkdir(parents=True)
-        (crate / "proofs" / f"{side}_reel_{name}" / "Proof.antt").write_text(proof(side, name))
+        proofs = crate / "proofs" / f"{side}_reel_{name}"
+        proofs.mkdir(parents=True)
+        (proofs / "Invariants.antt").write_text(INVARIANTS.format(side=side, name=name))
     (crate / "src" / "lib.rt").write_text(text)
     listed = repository / "crates.txt"
     below = next(line.split(":")[1] for line in listed.read_text().splitlines() if line.startswith("reel:"))
-    listed.write_text(listed.read_text() + f"measured: reel{below}\n")
+    listed.write_text(listed.read_text() + f"measured staticlib: reel{below}\n")
