@@ -1,4 +1,5 @@
-// Numbers and bytes as text, each put into a lent buffer from a place on; the answer is the place behind it.
+// Numbers and bytes as text, each put into a lent buffer from a place on; the answer is the place behind it. They are no
+// `String` and no `Display`, since the engine allocates nothing and the report's theorem says which bytes stand where.
 #![tactic(auto)]
 
 mod bytes;

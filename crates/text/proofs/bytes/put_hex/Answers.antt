@@ -7,5 +7,5 @@ use Rattle.text.proofs.bytes.put_hex.Goals as goal
 pub returns-clause-put : goal.returns-clause-put
 returns-clause-put c =
     let bytes = c.args.bytes.now in
-    let e : c.loop-i.i ≡ length bytes = omega arith in
-    record { next = omega (arith, hex_length bytes); holds = rw (e, drop-length bytes) at c.loop-i.invariant.rest }
+    let e : c.loop-b.b-index ≡ length bytes = omega arith in
+    record { next = omega (arith, hex_length bytes); holds = rw (e, drop-length bytes) at c.loop-b.invariant.rest }
