@@ -1,92 +1,77 @@
 // What refuses a new knot: causes 3 to 5 of the refusal table; and for 6 what is too large, of a knot after the last
 // one or between its neighbours.
-ghost use Rattle.std.specs.Prelude.{true, ◌≡◌, ◌≤◌};
+ghost use Rattle.std.specs.Prelude.{◌≡◌, ◌≤◌, IfSome};
 ghost use Rattle.scans.specs.SizeRule.{append_products, first_too_large, size_products};
 ghost use Rattle.scans.specs.RefusalTable.{first, list_causes, position_causes};
-ghost use Rattle.knot.specs.Machine.{Graded, refusal, scan, spot_in};
+ghost use Rattle.knot.specs.Machine.{refusal, scan, too_large};
 ghost use Rattle.following.specs.Machine.{CloseAfter, CloseBefore, neighbour};
 
-use knot::{COEFFICIENTS_MAX, GAP_MAX, Knot, POSITION_MAX, Reason, Refusal, Verdict, gap};
-
-// The knot beside a place of the list, if there is one; if not, any knot.
-#[derive(Clone, Copy)]
-pub struct Neighbour {
-    pub there: bool,
-    pub knot: Knot,
-}
+use knot::{COEFFICIENTS_MAX, GAP_MAX, Knot, POSITION_MAX, Refusal, Spot, gap};
 
 // Of a list: 3.
-pub fn list_cause(length: usize) -> Verdict
+pub fn list_cause(length: usize) -> Result<(), Refusal>
     ensures { refusal result ≡ first (list_causes length) }
 {
     if length == 0 {
-        return Verdict::Refused(Refusal::List);
+        return Err(Refusal::List);
     }
     if COEFFICIENTS_MAX < length {
-        return Verdict::Refused(Refusal::List);
+        return Err(Refusal::List);
     }
-    Verdict::Passed
+    Ok(())
 }
 
 // Of a position after the last knot: 4, then 5.
-pub fn position_cause(last: Neighbour, position: u32) -> Verdict
-    ensures { refusal result ≡ first (position_causes (neighbour last) position) }
+pub fn position_cause(last: Option<&Knot>, position: u32) -> Result<(), Refusal>
+    ensures { refusal result ≡ first (position_causes (neighbour last.entry) position) }
 {
     if POSITION_MAX < position {
-        return Verdict::Refused(Refusal::Position);
+        return Err(Refusal::Position);
     }
-    if !last.there {
-        return Verdict::Passed;
-    }
-    let held = last.knot.position as u32;
+    let Some(last) = last else {
+        return Ok(());
+    };
+    let held = u32::from(last.position);
     if position <= held {
-        return Verdict::Refused(Refusal::Position);
+        return Err(Refusal::Position);
     }
-    if GAP_MAX < (position - held) as u64 {
-        return Verdict::Refused(Refusal::Gap);
+    if GAP_MAX < u64::from(position - held) {
+        return Err(Refusal::Gap);
     }
-    Verdict::Passed
+    Ok(())
 }
 
 // What is too large of knot k between its neighbours: with the left gap, then with the right.
-pub fn size_reason(k: u32, left: Neighbour, knot: Knot, right: Neighbour) -> Reason
-    requires { (Graded knot) × (CloseBefore left knot.position) × (CloseAfter knot.position right) }
-    ensures { spot_in result ≡ first_too_large (size_products k (neighbour left) (scan knot) (neighbour right)) }
+pub fn size_reason(
+    k: u32,
+    left: Option<&Knot>,
+    knot: &Knot,
+    right: Option<&Knot>,
+) -> Result<(), Spot>
+    requires left { CloseBefore (neighbour left) knot.now.position }
+    requires right { CloseAfter knot.now.position (neighbour right) }
+    ensures { too_large result ≡ first_too_large (size_products k (neighbour left.entry) (scan knot.now) (neighbour right.entry)) }
 {
     let position = knot.position;
-    if left.there {
-        let before = left.knot.position;
-        if let Reason::TooLarge(spot) = knot.left_reason(k, gap(before, position)) {
-            return Reason::TooLarge(spot);
+    match (left, right) {
+        (None, None) => knot.left_reason(k, 1),
+        (Some(before), None) => knot.left_reason(k, gap(before.position, position)),
+        (None, Some(after)) => knot.right_reason(k, gap(position, after.position)),
+        (Some(before), Some(after)) => {
+            knot.left_reason(k, gap(before.position, position))?;
+            knot.right_reason(k, gap(position, after.position))
         }
     }
-    if right.there {
-        let after = right.knot.position;
-        return knot.right_reason(k, gap(position, after));
-    }
-    if left.there {
-        return Reason::Nothing;
-    }
-    knot.left_reason(k, 1)
 }
 
 // Of knot k after the last one: of the held knot with the new gap, then of the new knot.
-pub fn follow_reason(k: u32, last: Neighbour, next: Knot) -> Reason
-    requires { (Graded next) × (last.there ≡ true → (Graded last.knot) × (1 ≤ k))
-        × (CloseBefore last next.position) }
-    ensures { spot_in result ≡ first_too_large (append_products k (neighbour last) (scan next)) }
+pub fn follow_reason(k: u32, last: Option<&Knot>, next: &Knot) -> Result<(), Spot>
+    requires close { CloseBefore (neighbour last) next.now.position }
+    requires after { IfSome last (λ _. 1 ≤ k) }
+    ensures { too_large result ≡ first_too_large (append_products k (neighbour last.entry) (scan next.now)) }
 {
-    let nothing = Neighbour {
-        there: false,
-        knot: next,
-    };
-    if last.there {
-        let held = last.knot;
-        let from = held.position;
-        let to = next.position;
-        if let Reason::TooLarge(spot) = held.right_reason(k - 1, gap(from, to)) {
-            return Reason::TooLarge(spot);
-        }
+    if let Some(held) = last {
+        held.right_reason(k - 1, gap(held.position, next.position))?;
     }
-    size_reason(k, last, next, nothing)
+    size_reason(k, last, next, None)
 }

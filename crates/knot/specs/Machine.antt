@@ -1,48 +1,23 @@
--- What the machine's knots, verdicts and reasons are in the model.
-use Rattle.std.specs.Prelude.{List, [], map, ◌≡◌, ℕ, zero, suc, ◌+◌, ◌≤◌, ◌<◌, length, take, get_or}
+-- What the machine's knots, refusals and reasons are in the model.
+use Rattle.std.specs.Prelude.{List, map, ℕ, zero, suc, ◌+◌, ◌≡◌, ◌≤◌, take}
+use Rattle.std.specs.Prelude.{Option as Given, Some, None, Result, Ok, Err}
 use Rattle.std.proofs.Math.Option.{Option, none, some}
-use Rattle.rounding.specs.Limits.{knots_max, grade_max}
 use Rattle.scans.specs.Scan.{Scan}
-use Rattle.scans.specs.SizeRule.{Spot}
+use Rattle.scans.specs.SizeRule.{Spot as ModelSpot}
 use Rattle.knot.specs.declared.held.Knot.{Knot}
-use Rattle.knot.specs.declared.reason.Reason.{Reason}
-use Rattle.knot.specs.declared.reason.Reason.TheVariants as Reasons
+use Rattle.knot.specs.declared.reason.Spot.{Spot}
+use Rattle.knot.specs.declared.reason.Fault.{Fault}
+use Rattle.knot.specs.declared.reason.Fault.TheVariants as Faults
 use Rattle.knot.specs.declared.table.Refusal.{Refusal}
 use Rattle.knot.specs.declared.table.Refusal.TheVariants as Refusals
-use Rattle.knot.specs.declared.table.Verdict.{Verdict}
-use Rattle.knot.specs.declared.table.Verdict.TheVariants as Verdicts
 
 -- the scan of a knot: its list is its first grade + 1 coefficients, and those past them are free
 abbrev pub scan : Knot → Scan
 scan k = record { position = k.position; coefficients = take (k.grade + 1) k.coefficients }
 
--- an array of 8 coefficients, and a grade of 0 to 7
-pub record Graded (k : Knot) : Type 0 where
-  pub room : length k.coefficients ≡ grade_max + 1
-  pub grade : k.grade ≤ grade_max
-
--- the knot holds the scan
-pub record Holds (k : Knot) (s : Scan) : Type 0 where
-  pub graded : Graded k
-  pub is : scan k ≡ s
-
--- knot k of an array, and the scans of its first n knots
-abbrev pub knot_in : List Knot → ℕ → Knot
-knot_in knots k = get_or knots k (record { position = 0; grade = 0; coefficients = [] })
-
-abbrev pub scans_in : ℕ → List Knot → List Scan
-scans_in n knots = map scan (take n knots)
-
--- the first n knots of an array of 129 are filled, each with a grade of 0 to 7
-pub record Filled (knots : List Knot) (n : ℕ) : Type 0 where
-  pub room : length knots ≡ knots_max
-  pub count : n ≤ knots_max
-  pub graded : (k : ℕ) → k < n → Graded (knot_in knots k)
-
--- the spot that a reason names
-abbrev pub spot_in : Reason → Option Spot
-spot_in Reasons.Nothing = none
-spot_in (Reasons.TooLarge s) = some (record { knot = s.knot; order = s.order; gap = s.gap })
+-- the scans of knots
+abbrev pub scans : List Knot → List Scan
+scans knots = map scan knots
 
 -- the documents' number of each cause
 abbrev pub number : Refusal → ℕ
@@ -61,10 +36,10 @@ number Refusals.Readings = 12
 number Refusals.Unlike = 13
 number Refusals.Multiplier = 14
 
--- the number that a verdict refuses with
-abbrev pub refusal : Verdict → Option ℕ
-refusal Verdicts.Passed = none
-refusal (Verdicts.Refused r) = some (number r)
+-- the number that a result refuses with
+abbrev pub refusal : {T : Type 0} → Result T Refusal → Option ℕ
+refusal (Ok t) = none
+refusal (Err r) = some (number r)
 
 -- the refusal that a number from 0 to 14 stands for; 0 is none
 abbrev pub refusal_of : ℕ → Option ℕ
@@ -74,3 +49,33 @@ refusal_of (suc n) = some (suc n)
 pub record Numbers (n : ℕ) (found : Option ℕ) : Type 0 where
   pub known : n ≤ 14
   pub is : refusal_of n ≡ found
+
+-- the spot that an answer names, and the one that a test of the size rule finds
+abbrev pub spot : Spot → ModelSpot
+spot s = record { knot = s.knot; order = s.order; gap = s.gap }
+
+abbrev pub spot_in : Given Spot → Option ModelSpot
+spot_in None = none
+spot_in (Some s) = some (spot s)
+
+abbrev pub too_large : Result Unit Spot → Option ModelSpot
+too_large (Ok t) = none
+too_large (Err s) = some (spot s)
+
+-- the number of a fault, and the spot that it names
+abbrev pub fault_number : Fault → ℕ
+fault_number (Faults.Cause r) = number r
+fault_number (Faults.TooLarge s) = 6
+
+abbrev pub fault_spot : Fault → Option ModelSpot
+fault_spot (Faults.Cause r) = none
+fault_spot (Faults.TooLarge s) = some (spot s)
+
+-- the same of a result: what it refuses with, and why
+abbrev pub fault_in : {T : Type 0} → Result T Fault → Option ℕ
+fault_in (Ok t) = none
+fault_in (Err f) = some (fault_number f)
+
+abbrev pub reason_in : {T : Type 0} → Result T Fault → Option ModelSpot
+reason_in (Ok t) = none
+reason_in (Err f) = fault_spot f

@@ -12,6 +12,6 @@ pub use limits::{
     COEFFICIENTS_MAX, GAP_MAX, GRADE_MAX, KNOTS_MAX, MULTIPLIER_MAX, POSITION_MAX, READINGS_MAX,
     SIZE_MAX,
 };
-pub use reason::{Reason, Spot};
+pub use reason::{Fault, Spot};
 pub use size::list_reason;
-pub use table::{Refusal, Verdict};
+pub use table::{Refusal, number_of};

@@ -1,9 +1,9 @@
-// Why the size rule is broken: which product exceeds 2^28.
-ghost use Rattle.std.specs.Prelude.{[], ◌∷◌, ◌≡◌};
-ghost use Rattle.scans.specs.RefusalTable.{bad_size, first};
-ghost use Rattle.knot.specs.Machine.{refusal, spot_in};
+// Why a call is refused: a cause of the table, and of 6 which product exceeds 2^28.
+ghost use Rattle.std.specs.Prelude.{◌≡◌};
+ghost use Rattle.knot.specs.Machine.{fault_number, fault_spot, number, spot_in};
+ghost use Rattle.knot.specs.declared.reason.Fault.TheVariants as Faults;
 
-use crate::table::{Refusal, Verdict};
+use crate::table::Refusal;
 
 // The knot, the order j and the gap of a product |C_j| × h^j.
 #[derive(Clone, Copy)]
@@ -13,22 +13,47 @@ pub struct Spot {
     pub gap: u32,
 }
 
-// What is found of products in their sequence: the first that is too large, or nothing. A question for the reason of a
-// 6 has nothing also where the call is not refused with 6.
+// A cause of the table; or, of products in their sequence, the first that is too large, which is cause 6.
 #[derive(Clone, Copy)]
-pub enum Reason {
-    Nothing,
+pub enum Fault {
+    Cause(Refusal),
     TooLarge(Spot),
 }
 
-impl Reason {
-    // 6 where a product is too large.
-    pub fn verdict(self) -> Verdict
-        ensures { refusal result ≡ first (bad_size (spot_in self) ∷ []) }
+impl Fault {
+    // The cause: 6 where a product is too large.
+    pub fn cause(self) -> Refusal
+        ensures { number result ≡ fault_number self }
     {
         match self {
-            Reason::Nothing => Verdict::Passed,
-            Reason::TooLarge(_) => Verdict::Refused(Refusal::Size),
+            Fault::Cause(cause) => cause,
+            Fault::TooLarge(_) => Refusal::Size,
         }
+    }
+
+    // Which product is too large; none where the cause is another.
+    pub fn reason(self) -> Option<Spot>
+        ensures { spot_in result ≡ fault_spot self }
+    {
+        match self {
+            Fault::Cause(_) => None,
+            Fault::TooLarge(spot) => Some(spot),
+        }
+    }
+}
+
+impl From<Refusal> for Fault {
+    ghost from_gives = { λ cause f. f ≡ Faults.Cause cause };
+
+    fn from(cause: Refusal) -> Fault {
+        Fault::Cause(cause)
+    }
+}
+
+impl From<Spot> for Fault {
+    ghost from_gives = { λ spot f. f ≡ Faults.TooLarge spot };
+
+    fn from(spot: Spot) -> Fault {
+        Fault::TooLarge(spot)
     }
 }

@@ -1,65 +1,50 @@
 // The refusal table: its causes, in its order, and each one's number.
 ghost use Rattle.std.specs.Prelude.{◌≡◌, ◌≤◌};
-ghost use Rattle.knot.specs.Machine.{Numbers, number as number_of, refusal};
+ghost use Rattle.knot.specs.Machine.{Numbers, number, refusal};
 
 #[derive(Clone, Copy)]
 pub enum Refusal {
     // of a block: its length, a word's kind, the edition, spare bits, the end count, words missing or over
-    Form,
+    Form = 1,
     // a knot count above 129
-    Full,
+    Full = 2,
     // coefficient list of length 0 or above 8
-    List,
+    List = 3,
     // position above 65,535 or not above the last
-    Position,
+    Position = 4,
     // gap above 16
-    Gap,
+    Gap = 5,
     // size rule broken
-    Size,
+    Size = 6,
     // position before the first or after the last knot
-    Outside,
+    Outside = 7,
     // fewer than two knots, in a query
-    Few,
+    Few = 8,
     // no knot k; or i above j, or no knot j
-    Index,
+    Index = 9,
     // output shorter than the block
-    Output,
+    Output = 10,
     // a view with n of 0
-    Stride,
+    Stride = 11,
     // a 33rd reading
-    Readings,
+    Readings = 12,
     // unlike positions or grades, of two reels
-    Unlike,
+    Unlike = 13,
     // a multiplier outside −16 to 16
-    Multiplier,
+    Multiplier = 14,
 }
 
 impl Refusal {
     pub fn number(self) -> u32
-        ensures { result ≡ number_of self }
+        ensures { result ≡ number self }
     {
-        match self {
-            Refusal::Form => 1,
-            Refusal::Full => 2,
-            Refusal::List => 3,
-            Refusal::Position => 4,
-            Refusal::Gap => 5,
-            Refusal::Size => 6,
-            Refusal::Outside => 7,
-            Refusal::Few => 8,
-            Refusal::Index => 9,
-            Refusal::Output => 10,
-            Refusal::Stride => 11,
-            Refusal::Readings => 12,
-            Refusal::Unlike => 13,
-            Refusal::Multiplier => 14,
-        }
+        self as u32
     }
 
-    // The refusal of a number of the table.
+    // The refusal of a number of the table. Not `TryFrom`: it cannot fail, since the caller knows the number to be one.
     pub fn numbered(n: u32) -> Self
         requires { (1 ≤ n) × (n ≤ 14) }
-        ensures { number_of result ≡ n }
+        ensures { number result ≡ n }
     {
         match n {
             1 => Refusal::Form,
@@ -80,21 +65,12 @@ impl Refusal {
     }
 }
 
-// What is found of some causes: that none holds, or the first that does.
-#[derive(Clone, Copy)]
-pub enum Verdict {
-    Passed,
-    Refused(Refusal),
-}
-
-impl Verdict {
-    // The refusal's number; 0 where nothing refuses.
-    pub fn number(self) -> u32
-        ensures { Numbers result (refusal self) }
-    {
-        match self {
-            Verdict::Passed => 0,
-            Verdict::Refused(cause) => cause.number(),
-        }
+// The number of what a test finds: that of the refusal; 0 where nothing refuses.
+pub fn number_of(found: Result<(), Refusal>) -> u32
+    ensures { Numbers result (refusal found) }
+{
+    match found {
+        Ok(()) => 0,
+        Err(cause) => cause.number(),
     }
 }

@@ -97,11 +97,11 @@ overflow_cast-product c = power-fits c.args.h c.loop-j.j c.loop-j.power (omega a
 
 pub overflow_mul-product : goal.overflow_mul-product
 overflow_mul-product c =
-    formed-fits c.args.h c.loop-j.j c.loop-j.power (omega arith) (omega arith) c.loop-j.invariant.power c.args.c.now (omega arith)
+    formed-fits c.args.h c.loop-j.j c.loop-j.power (omega arith) (omega arith) c.loop-j.invariant.power c.args.list.now (omega arith)
 
 pub returns-then-product-gt-MOST : goal.returns-then-product-gt-MOST
 returns-then-product-gt-MOST c =
-    let C = c.args.c.now in
+    let C = c.args.list.now in
     let small : mag (get_or C c.loop-j.j (pos 0)) < 2 ^ 31 = omega arith in
     let order : c.loop-j.j ≤ grade_max = omega arith in
     let over : size_max < product c.args.h C c.loop-j.j =
@@ -118,12 +118,11 @@ overflow_mul-power c = next-fits c.args.h c.loop-j.j c.loop-j.power (omega arith
 
 pub loop-j-preserved : goal.loop-j-preserved
 loop-j-preserved c = record {
-  within = omega arith;
   power = ap (λ n. n * c.args.h) c.loop-j.invariant.power ∙ sym (ap (λ n. c.args.h ^ n) (add-one c.loop-j.j) ∙ pow-suc c.args.h c.loop-j.j);
   small = below_more _ _ c.loop-j.invariant.small
-      (found-neither c.args.h c.loop-j.j c.loop-j.power (omega arith) (omega arith) c.loop-j.invariant.power c.args.c.now (omega arith)
+      (found-neither c.args.h c.loop-j.j c.loop-j.power (omega arith) (omega arith) c.loop-j.invariant.power c.args.list.now (omega arith)
       c.if-product-gt-MOST.false c.if-product-lt-LEAST.false);
 }
 
 pub returns : goal.returns
-returns c = sym (sized_kept c.args.k c.args.h c.args.c.now (λ j b. c.loop-j.invariant.small j (omega arith)))
+returns c = sym (sized_kept c.args.k c.args.h c.args.list.now (λ j b. c.loop-j.invariant.small j (omega arith)))
