@@ -1,40 +1,37 @@
 -- What is found of a call that puts a knot into the list.
-use Rattle.std.specs.Prelude.{Bool, List, ◌≡◌, ℕ, ◌+◌, ltb, ℤ}
-use Rattle.std.proofs.Math.Option.{Option, none}
-use Rattle.scans.specs.Scan.{Scan, scan_of}
+use Rattle.std.specs.Prelude.{List, ◌≡◌, ℕ, ℤ, length, Result, IfOk}
+use Rattle.scans.specs.Scan.{Scan, scan_of, at, before, after}
 use Rattle.scans.specs.SizeRule.{Product, size_products, append_products}
 use Rattle.scans.specs.RefusalTable.{Cause, first}
 use Rattle.scans.specs.Reason.{reason as reason_of}
 use Rattle.scans.specs.Order.{append_causes, correct_causes}
-use Rattle.knot.specs.Machine.{Holds, refusal, spot_in}
-use Rattle.following.specs.Machine.{neighbour, CloseBefore, CloseAfter}
+use Rattle.knot.specs.Machine.{scan, fault_in, reason_in}
 use Rattle.knot.specs.declared.held.Knot.{Knot}
-use Rattle.first_cause.specs.declared.changes.Found.{Found}
+use Rattle.knot.specs.declared.reason.Fault.{Fault}
+use Rattle.following.specs.Machine.{CloseBefore, CloseAfter}
 
--- the first of the call's causes; where none holds, the knot with this scan; and the reason, where a 6 is it
-pub record Finds (r : Found) (causes : List Cause) (tested : List Product) (s : Scan) : Type 0 where
-  pub verdict : refusal r.verdict ≡ first causes
-  pub knot : first causes ≡ none → Holds r.knot s
-  pub reason : spot_in r.reason ≡ reason_of (first causes) tested
+-- the first of the call's causes, and the reason, where a 6 is it; where none holds, the knot with this scan
+pub record Finds (r : Result Knot Fault) (causes : List Cause) (tested : List Product) (s : Scan) : Type 0 where
+  pub fault : fault_in r ≡ first causes
+  pub reason : reason_in r ≡ reason_of (first causes) tested
+  pub knot : IfOk r (λ k. scan k ≡ s)
 
--- the scan of a knot beside a place of the list, where there is one
-abbrev pub beside : Bool → Knot → Option Scan
-beside there knot = neighbour (record { there = there; knot = knot })
+-- what an append at x after these scans finds
+abbrev pub FindsAppended : Result Knot Fault → List Scan → ℕ → List ℤ → Type 0
+FindsAppended r scans x C =
+    let count = length scans in
+    let last = before scans count in
+    Finds r (append_causes count last x C) (append_products count last (scan_of x C)) (scan_of x C)
 
--- what an append of a scan after so many finds
-abbrev pub FindsAppended : Found → ℕ → Option Scan → Scan → Type 0
-FindsAppended r count last s =
-    Finds r (append_causes count last s.position s.coefficients) (append_products count last s) s
+-- what a correct of scan k of these needs and finds: the scans before and after it, where there are any, are at most 16
+-- steps away; the first of its causes, or else the knot with the new coefficients, where scan k lies
+abbrev pub CloseBeside : List Scan → ℕ → Type 0
+CloseBeside scans k =
+    let x = (at scans k).position in CloseBefore (before scans k) x × CloseAfter x (after scans k)
 
--- what a correct of knot k of so many, at position x, needs and finds: the knots before and after it, where there are
--- any, are at most 16 steps away; the first of its causes, or else the knot with the new coefficients
-abbrev pub CloseBeside : ℕ → ℕ → Knot → ℕ → Knot → Type 0
-CloseBeside k count previous x following =
-    CloseBefore (record { there = ltb 0 k; knot = previous }) x ×
-    CloseAfter x (record { there = ltb (k + 1) count; knot = following })
-
-abbrev pub FindsCorrected : Found → ℕ → ℕ → Knot → ℕ → Knot → List ℤ → Type 0
-FindsCorrected r k count previous x following C =
-    let left = beside (ltb 0 k) previous in
-    let right = beside (ltb (k + 1) count) following in
-    Finds r (correct_causes k count left x right C) (size_products k left (scan_of x C) right) (scan_of x C)
+abbrev pub FindsCorrected : Result Knot Fault → List Scan → ℕ → List ℤ → Type 0
+FindsCorrected r scans k C =
+    let x = (at scans k).position in
+    let left = before scans k in
+    let right = after scans k in
+    Finds r (correct_causes k (length scans) left x right C) (size_products k left (scan_of x C) right) (scan_of x C)

@@ -1,9 +1,9 @@
-// The first cause that refuses a call: of append, correct and the queries, all causes in their order, of numbers and
-// single knots.
+// The first cause that refuses a call: of append, correct and the queries, all causes in their order, of the knots that
+// are held.
 #![tactic(auto)]
 
 mod changes;
 mod queries;
 
-pub use changes::{Found, append_cause, correct_cause};
+pub use changes::{append_cause, correct_cause};
 pub use queries::{KNOTS_MIN, query_cause, range_cause};
