@@ -3,6 +3,7 @@
 
 mod alignment;
 mod knots;
+mod pairs;
 
 pub use alignment::all_aligned;
 pub use knots::same;
