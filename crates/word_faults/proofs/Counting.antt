@@ -1,5 +1,5 @@
 -- How far the counting of a knot's readings has come.
-use Rattle.std.proofs.Common.{true, false, List, [], ◌∷◌, ◌≡◌, ℕ, suc, ◌+◌, ◌≤◌, sym, ◌∙◌, ap, ap₂, arith, drop, get_or, length}
+use Rattle.std.proofs.Common.{true, false, List, [], ◌∷◌, ◌≡◌, ℕ, suc, ◌+◌, ◌≤◌, Ok, sym, ◌∙◌, ap, ap₂, arith, drop, get_or, length}
 use native.Mathlib.Nat.{add-zero, zero-add}
 use borrow.Author.Tests.{ltb-false}
 use Rattle.std.proofs.Math.Option.{none, some}
@@ -27,26 +27,26 @@ none_yet ws from =
 
 module _ (ws : List ℕ) (from count : ℕ) (come : Come ws from count) where
   -- the next word is none: these are all
-  pub all-counted : is_reading (get_or ws (from + count) 0) ≡ false → Counts (record { count = count; refusal = 0 }) (leading_readings (drop from ws))
+  pub all-counted : is_reading (get_or ws (from + count) 0) ≡ false → Counts (Ok count) (leading_readings (drop from ws))
   all-counted is =
       let last : leading_readings (drop (from + count) ws) ≡ [] = no_reading ws (from + count) is in
       record {
-        number = record { known = omega arith; is = sym (come.faults ∙ ap (λ l. first (reading_causes count l)) last) };
-        count = λ quiet. sym (come.long ∙ ap (λ l. count + length l) last ∙ add-zero count);
+        fault = sym (come.faults ∙ ap (λ l. first (reading_causes count l)) last);
+        count = sym (come.long ∙ ap (λ l. count + length l) last ∙ add-zero count);
         few = come.few;
       }
 
   -- it is a reading
-  module _ (is : is_reading (get_or ws (from + count) 0) ≡ true) where
+  module _ (w : ℕ) (w_is : w ≡ get_or ws (from + count) 0) (is : is_reading w ≡ true) where
     abbrev rest : List ℕ
     rest = leading_readings (drop (suc (from + count)) ws)
 
     -- its own causes
     abbrev these : List Cause
-    these = reading_causes count (get_or ws (from + count) 0 ∷ [])
+    these = reading_causes count (w ∷ [])
 
-    next : leading_readings (drop (from + count) ws) ≡ get_or ws (from + count) 0 ∷ rest
-    next = one-reading ws (from + count) is
+    next : leading_readings (drop (from + count) ws) ≡ w ∷ rest
+    next = one-reading ws (from + count) (sym (ap is_reading w_is) ∙ is) ∙ ap (λ u. u ∷ rest) (sym w_is)
 
     -- the first fault is its
     pub wrong : {n : ℕ} → first these ≡ some n → first (reading_causes 0 (leading_readings (drop from ws))) ≡ some n

@@ -8,69 +8,60 @@ ghost use Rattle.block.specs.Reading.{end_causes, header_causes, knot_causes, le
 ghost use Rattle.block.specs.Reading.{is_edition, is_reading};
 
 use block::{PLAIN_EDITION, READINGS_EDITION};
-use following::{Neighbour, position_cause};
-use knot::{KNOTS_MAX, READINGS_MAX, Refusal, Verdict};
+use following::position_cause;
+use knot::{KNOTS_MAX, Knot, READINGS_MAX, Refusal};
 use word::{
     edition, header_spare, kind, knot_count, knot_spare, load, position, reading_mark,
     reading_spare, words_before,
 };
 
 // Of the length in bytes.
-pub fn length_fault(length: usize) -> Verdict
+pub fn length_fault(length: usize) -> Result<(), Refusal>
     ensures { refusal result ≡ first (length_causes length) }
 {
-    if length % 4 != 0 {
-        return Verdict::Refused(Refusal::Form);
+    if length % 4 != 0 || length < 8 {
+        return Err(Refusal::Form);
     }
-    if length < 8 {
-        return Verdict::Refused(Refusal::Form);
-    }
-    Verdict::Passed
+    Ok(())
 }
 
 // The editions that are read.
 fn is_edition(edition: u32) -> bool
     ensures { result ≡ is_edition edition }
 {
-    if edition == PLAIN_EDITION as u32 {
-        return true;
-    }
-    edition == READINGS_EDITION as u32
+    edition == u32::from(PLAIN_EDITION) || edition == u32::from(READINGS_EDITION)
 }
 
 // Of the first word: its form, then 2.
-pub fn header_fault(word: u32) -> Verdict
+pub fn header_fault(word: u32) -> Result<(), Refusal>
     ensures { refusal result ≡ first (header_causes word) }
 {
     match kind(word) {
         0 => {
-            if !is_edition(edition(word)) {
-                return Verdict::Refused(Refusal::Form);
-            }
-            if header_spare(word) != 0 {
-                return Verdict::Refused(Refusal::Form);
+            if !is_edition(edition(word)) || header_spare(word) != 0 {
+                return Err(Refusal::Form);
             }
             if KNOTS_MAX < knot_count(word) as usize {
-                return Verdict::Refused(Refusal::Full);
+                return Err(Refusal::Full);
             }
-            Verdict::Passed
+            Ok(())
         }
-        _ => Verdict::Refused(Refusal::Form),
+        _ => Err(Refusal::Form),
     }
 }
 
 // Of a knot word after the last knot: its form, then 4 and 5.
-pub fn knot_fault(last: Neighbour, word: u32) -> Verdict
-    ensures { refusal result ≡ first (knot_causes (neighbour last) word) }
+pub fn knot_fault(last: Option<&Knot>, word: u32) -> Result<(), Refusal>
+    ensures { refusal result ≡ first (knot_causes (neighbour last.entry) word) }
 {
     match kind(word) {
         1 => {
             if knot_spare(word) != 0 {
-                return Verdict::Refused(Refusal::Form);
+                return Err(Refusal::Form);
             }
             position_cause(last, position(word))
         }
-        _ => Verdict::Refused(Refusal::Form),
+        _ => Err(Refusal::Form),
     }
 }
 
@@ -85,38 +76,35 @@ pub fn is_reading(word: u32) -> bool
 }
 
 // Of a reading after `count` others of its knot: its form, then 12.
-pub fn reading_fault(count: usize, word: u32) -> Verdict
+pub fn reading_fault(count: usize, word: u32) -> Result<(), Refusal>
     ensures { refusal result ≡ first (reading_causes count (word ∷ [])) }
 {
     if reading_spare(word) != 0 {
-        return Verdict::Refused(Refusal::Form);
+        return Err(Refusal::Form);
     }
     if READINGS_MAX <= count {
-        return Verdict::Refused(Refusal::Readings);
+        return Err(Refusal::Readings);
     }
-    Verdict::Passed
+    Ok(())
 }
 
 // Of the words from k on, where the end word is due: it is the last one, and counts the words before it.
-pub fn end_fault(block: &[u8], k: usize) -> Verdict
+pub fn end_fault(block: &[u8], k: usize) -> Result<(), Refusal>
     ensures { refusal result ≡ first (end_causes (length (words block.now) - 1)
         (drop k (words block.now))) }
 {
     let count = block.len() / 4;
-    if count == 0 {
-        return Verdict::Refused(Refusal::Form);
-    }
-    if k != count - 1 {
-        return Verdict::Refused(Refusal::Form);
+    if count == 0 || k != count - 1 {
+        return Err(Refusal::Form);
     }
     let word = load(block, k);
     match kind(word) {
         3 => {
             if words_before(word) as usize != k {
-                return Verdict::Refused(Refusal::Form);
+                return Err(Refusal::Form);
             }
-            Verdict::Passed
+            Ok(())
         }
-        _ => Verdict::Refused(Refusal::Form),
+        _ => Err(Refusal::Form),
     }
 }

@@ -5,4 +5,4 @@ mod faults;
 mod readings;
 
 pub use faults::{end_fault, header_fault, knot_fault, length_fault};
-pub use readings::{Counted, count_readings};
+pub use readings::count_readings;

@@ -6,34 +6,24 @@ ghost use Rattle.word_faults.specs.Machine.{Counts};
 
 use crate::faults::{is_reading, reading_fault};
 use block::READINGS_EDITION;
+use knot::Refusal;
 use word::load;
 
-// What is found of them: the number of the first fault, 0 where there is none; then there are `count`.
-#[derive(Clone, Copy)]
-pub struct Counted {
-    pub count: usize,
-    pub refusal: u32,
-}
-
-// Those that stand from a word on, in a block of this edition.
-pub fn count_readings(block: &[u8], edition: u32, from: usize) -> Counted
+// How many stand from a word on, in a block of this edition; or the first fault.
+pub fn count_readings(block: &[u8], edition: u32, from: usize) -> Result<usize, Refusal>
     requires { from < 2 ^ 32 }
     ensures { Counts result (reading_words edition (drop from (words block.now))) }
 {
-    let mut count = 0;
-    if edition != READINGS_EDITION as u32 {
-        return Counted { count, refusal: 0 };
+    if edition != u32::from(READINGS_EDITION) {
+        return Ok(0);
     }
-    let refusal: u32 = 'words: loop {
+    let mut count = 0;
+    loop {
         let word = load(block, from + count);
         if !is_reading(word) {
-            break 'words 0;
+            return Ok(count);
         }
-        let fault = reading_fault(count, word).number();
-        if fault != 0 {
-            break 'words fault;
-        }
+        reading_fault(count, word)?;
         count += 1;
-    };
-    Counted { count, refusal }
+    }
 }

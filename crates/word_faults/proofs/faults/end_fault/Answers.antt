@@ -8,6 +8,7 @@ use Rattle.block.specs.Fields.{kind, words_before}
 use Rattle.block.specs.Reading.{end_causes}
 use Rattle.block.proofs.Bytes.{length-words}
 use Rattle.word_faults.proofs.faults.end_fault.Goals as goal
+use Rattle.word_faults.proofs.faults.end_fault.Goals.{then-count-eq0-via-then-count-eq0, then-count-eq0-via-else-count-eq0+then-k-count}
 
 -- ---- the last word stands in place k, or it does not
 
@@ -40,10 +41,14 @@ other_count k w e h = rw (eq-eqb (kind w) 3 e, ne_eqb (words_before w) k h) refl
 right : (k w : ℕ) → kind w ≡ 3 → words_before w ≡ k → first (end_causes k (w ∷ [])) ≡ none
 right k w e f = rw (eq-eqb (kind w) 3 e, eq-eqb (words_before w) k f) refl
 
-pub returns-then-k-count : goal.returns-then-k-count
-returns-then-k-count c =
+pub returns-then-count-eq0 : goal.returns-then-count-eq0
+returns-then-count-eq0 c =
     let ws = words c.args.block.now in
-    sym (not_last (length ws - 1) ws c.args.k (λ e. c.if-k-count.true (omega (arith, length-words c.args.block.now))))
+    let long = length-words c.args.block.now in
+    sym (not_last (length ws - 1) ws c.args.k (elim c.then-count-eq0.branch [
+      | then-count-eq0-via-then-count-eq0 w ↦ λ e. omega arith
+      | then-count-eq0-via-else-count-eq0+then-k-count w ↦ λ e. omega arith
+    ]))
 
 pub returns-then-words_before-k : goal.returns-then-words_before-k
 returns-then-words_before-k c =

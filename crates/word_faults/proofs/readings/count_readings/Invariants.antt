@@ -5,8 +5,8 @@ use Rattle.block.specs.Bytes.{words}
 use Rattle.word_faults.proofs.Counting.{Come}
 use Rattle.word_faults.proofs.readings.count_readings.Given as goal
 
-abbrev pub invariant-words : goal.invariant-words
-invariant-words l = Come (words l.block) l.from l.count
+abbrev pub invariant-loop-edition : goal.invariant-loop-edition
+invariant-loop-edition l = Come (words l.block) l.from l.count
 
-abbrev pub decreases-words : goal.decreases-words
-decreases-words l = readings_max + 1 - l.count
+abbrev pub decreases-loop-edition : goal.decreases-loop-edition
+decreases-loop-edition l = readings_max + 1 - l.count
