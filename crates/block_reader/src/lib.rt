@@ -1,6 +1,8 @@
 // Reading blocks.
 #![tactic(auto)]
 
+mod contents;
 mod reader;
 
-pub use reader::{Contents, read};
+pub use contents::Contents;
+pub use reader::read;

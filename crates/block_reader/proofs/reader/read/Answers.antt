@@ -1,22 +1,17 @@
 -- A fault of the length or of the header is the first one; past both, what is read of the knots is what is read of the block.
-use Rattle.std.proofs.Common.{List, [], ◌∷◌, ◌≡◌, ℕ, ◌-◌, ◌<◌, refl, sym, ◌∙◌, ap, ap₂, arith, get_or, length}
+use Rattle.std.proofs.Common.{List, [], ◌∷◌, ◌≡◌, ℕ, ◌-◌, ◌<◌, Result, refl, sym, ◌∙◌, ap, ap₂, arith, get_or, length}
+use Rattle.std.proofs.lemmas.Result.{err_from_is_err_and}
 use Rattle.std.proofs.Math.Option.{Option, none, some, some-ne-none}
-use Rattle.rounding.specs.Limits.{knots_max}
 use Rattle.scans.specs.Scan.{Scan}
-use Rattle.scans.specs.SizeRule.{turn_products}
-use Rattle.scans.specs.RefusalTable.{Cause, first}
-use Rattle.scans.specs.Reason.{reason}
+use Rattle.scans.specs.RefusalTable.{first}
 use Rattle.scans.proofs.Causes.{first_found, first-later}
-use Rattle.scans.proofs.Reason.{Others, no_reason}
-use Rattle.knot.specs.Machine.{refusal, Numbers}
-use Rattle.knot.specs.declared.reason.Reason.TheVariants as Reasons
-use Rattle.knot.proofs.Numbers.{passed, failed}
+use Rattle.knot.specs.declared.reason.Fault.{Fault}
 use Rattle.block.specs.Bytes.{words}
 use Rattle.block.specs.Fields.{knot_count, edition}
 use Rattle.block.specs.Reading.{length_causes, header_causes, knots_causes, words_causes, block_causes, list_of_words, list_of}
 use Rattle.block.proofs.RoundTrips.{accepted-written}
 use Rattle.block_reader.specs.Machine.{Reads}
-use Rattle.block_reader.specs.declared.reader.Contents.{Contents}
+use Rattle.block_reader.specs.declared.contents.Contents.{Contents}
 use Rattle.block_reader.proofs.reader.Come.{fault, list, refuses}
 use Rattle.block_reader.proofs.reader.read.Goals as goal
 
@@ -53,28 +48,6 @@ length-passed : (bs : List ℕ) → first (length_causes (length bs)) ≡ none �
 unfolding block_causes
 length-passed bs e = first-later (length_causes (length bs)) (words_causes (words bs)) e
 
--- ---- a fault before the first knot
-
-stops : {r : Contents} {n : ℕ} (bs : List ℕ) (causes : List Cause) (here : Option ℕ) → here ≡ first causes → Others causes → here ≡ some n →
-    Numbers n here → first (block_causes bs) ≡ some n →
-    (r.refusal ≡ n) × (length r.knots ≡ knots_max) × (r.count ≡ 0) × (r.reason ≡ Reasons.Nothing) →
-    Reads r (first (block_causes bs)) (list_of bs)
-stops {r} bs causes here is other e numbered whole s =
-    refuses r (first (block_causes bs)) here (list_of bs) (rw s.0 numbered) (rw s.0 e) (rw s.0 whole) s.1 (omega (arith, s.2)) s.3
-    (ap (λ f. reason f (turn_products 0 none (list_of bs))) is ∙ no_reason causes (turn_products 0 none (list_of bs)) other)
-
-pub returns-then-length-ne0-clause-reads : goal.returns-then-length-ne0-clause-reads
-returns-then-length-ne0-clause-reads c =
-    let bs = c.args.block.now in
-    let e = failed c.number-length.result c.number-length.ensures c.if-length-ne0.true in
-    stops bs (length_causes (length bs)) (refusal c.length_fault.result) c.length_fault.ensures (refl, tt) e c.number-length.ensures
-    (length-found bs (sym c.length_fault.ensures ∙ e)) c.stopped.ensures
-
-pub returns-then-length-ne0-clause-block_value : goal.returns-then-length-ne0-clause-block_value
-returns-then-length-ne0-clause-block_value c none_found =
-    let e = failed c.number-length.result c.number-length.ensures c.if-length-ne0.true in
-    absurd (some-ne-none _ (sym (length-found c.args.block.now (sym c.length_fault.ensures ∙ e)) ∙ none_found))
-
 -- the header's causes stand where its word was loaded from
 header_is : {found : Option ℕ} {w v : ℕ} → found ≡ first (header_causes w) → w ≡ v → first (header_causes v) ≡ found
 header_is e is = sym (e ∙ ap (λ w. first (header_causes w)) is)
@@ -84,26 +57,35 @@ header-first : {n : ℕ} (bs : List ℕ) → first (length_causes (length bs)) �
     first (block_causes bs) ≡ some n
 header-first bs e h = length-passed bs e ∙ header-found (words bs) h
 
-pub returns-then-header-ne0-clause-reads : goal.returns-then-header-ne0-clause-reads
-returns-then-header-ne0-clause-reads c =
-    let bs = c.args.block.now in
-    let is = header_is c.header_fault.ensures c.load-word.ensures.value in
-    let e = failed c.number-header.result c.number-header.ensures c.if-header-ne0.true in
-    stops bs (header_causes (get_or (words bs) 0 0)) (refusal c.header_fault.result) (sym is) (refl, (refl, tt)) e c.number-header.ensures
-    (header-first bs (sym c.length_fault.ensures ∙ passed c.number-length.ensures c.if-length-ne0.false) (is ∙ e))
-    c.stopped-then-header-ne0.ensures
+-- ---- a fault before the first knot
 
-pub returns-then-header-ne0-clause-block_value : goal.returns-then-header-ne0-clause-block_value
-returns-then-header-ne0-clause-block_value c none_found =
+pub returns-in_err-length_fault-clause-reads : goal.returns-in_err-length_fault-clause-reads
+returns-in_err-length_fault-clause-reads c =
+    let failed = err_from_is_err_and c.from_residual.result c.from_residual.ensures.1 in
+    let here = c.in_err-length_fault.ensures in
+    rw (failed.1, failed.2)
+    (refuses _ (length_causes (length c.args.block.now)) (refl, tt) here (length-found c.args.block.now (sym here)))
+
+pub returns-in_err-length_fault-clause-block_value : goal.returns-in_err-length_fault-clause-block_value
+returns-in_err-length_fault-clause-block_value c none_found =
+    absurd (some-ne-none _ (sym (length-found c.args.block.now (sym c.in_err-length_fault.ensures)) ∙ none_found))
+
+pub returns-in_err-header_fault-clause-reads : goal.returns-in_err-header_fault-clause-reads
+returns-in_err-header_fault-clause-reads c =
     let bs = c.args.block.now in
-    let is = header_is c.header_fault.ensures c.load-word.ensures.value in
-    let e = failed c.number-header.result c.number-header.ensures c.if-header-ne0.true in
-    let whole = header-first bs (sym c.length_fault.ensures ∙ passed c.number-length.ensures c.if-length-ne0.false) (is ∙ e) in
-    absurd (some-ne-none _ (sym whole ∙ none_found))
+    let failed = err_from_is_err_and c.from_residual-in_err-header_fault.result c.from_residual-in_err-header_fault.ensures.1 in
+    let here = header_is c.in_err-header_fault.ensures c.load-word.ensures.value in
+    rw (failed.1, failed.2)
+    (refuses _ (header_causes (get_or (words bs) 0 0)) (refl, (refl, tt)) (sym here) (header-first bs (sym c.in_ok-length_fault.ensures) here))
+
+pub returns-in_err-header_fault-clause-block_value : goal.returns-in_err-header_fault-clause-block_value
+returns-in_err-header_fault-clause-block_value c none_found =
+    let here = header_is c.in_err-header_fault.ensures c.load-word.ensures.value in
+    absurd (some-ne-none _ (sym (header-first c.args.block.now (sym c.in_ok-length_fault.ensures) here) ∙ none_found))
 
 -- ---- both are accepted, and the header's fields are handed on
 
-read_as : {r : Contents} {f g : Option ℕ} {l m : List Scan} → g ≡ f → m ≡ l → Reads r f l → Reads r g m
+read_as : {r : Result Contents Fault} {f g : Option ℕ} {l m : List Scan} → g ≡ f → m ≡ l → Reads r f l → Reads r g m
 read_as p q reads = rw (p, q) reads
 
 pub returns-clause-reads : goal.returns-clause-reads
@@ -111,14 +93,13 @@ unfolding list_of
 returns-clause-reads c =
     let bs = c.args.block.now in
     let ws = words bs in
-    let quiet_length = sym c.length_fault.ensures ∙ passed c.number-length.ensures c.if-length-ne0.false in
-    let quiet_header = header_is c.header_fault.ensures c.load-word.ensures.value ∙ passed c.number-header.ensures c.if-header-ne0.false in
+    let quiet_header = header_is c.in_ok-header_fault.ensures c.load-word.ensures.value in
     let e = sym (c.edition.ensures ∙ ap edition c.load-word.ensures.value) in
     let n = sym (c.knot_count.ensures ∙ ap knot_count c.load-word.ensures.value) in
-    read_as (length-passed bs quiet_length ∙ header-passed ws quiet_header ∙ ap₂ (λ n m. fault n ws m) e n)
+    read_as (length-passed bs (sym c.in_ok-length_fault.ensures) ∙ header-passed ws quiet_header ∙ ap₂ (λ n m. fault n ws m) e n)
     (header-listed ws quiet_header ∙ ap₂ (λ n m. list n ws m) e n) c.read_knots.ensures
 
 pub returns-clause-block_value : goal.returns-clause-block_value
 returns-clause-block_value c none_found plain =
-    let quiet_header = header_is c.header_fault.ensures c.load-word.ensures.value ∙ passed c.number-header.ensures c.if-header-ne0.false in
+    let quiet_header = header_is c.in_ok-header_fault.ensures c.load-word.ensures.value in
     accepted-written c.args.block.now (c.load-word.ensures.below (header-there (words c.args.block.now) quiet_header)) none_found plain

@@ -1,139 +1,123 @@
 -- One word more of a knot, one knot more, and each fault as the first of all.
-use Rattle.std.proofs.Common.{List, ◌≡◌, ℕ, suc, ◌+◌, ◌-◌, ◌≤◌, ◌<◌, refl, sym, ◌∙◌, ap, arith, drop, get_or, length, set, ℤ, to_z, of_z, w32}
-use mir.Facts.{to_z-of_z}
-use mir.Val.{SFits}
-use Rattle.std.proofs.Math.Option.{Option, none, some}
+use Rattle.std.proofs.Common.{true, [], ◌∷◌, ◌≡◌, ℕ, ◌+◌, ◌-◌, ◌≤◌, refl, sym, ◌∙◌, ap, ap₂, arith, drop, take, get_or, length}
+use Rattle.std.proofs.lemmas.Result.{err_from_is_err_and}
 use Rattle.rounding.specs.Limits.{grade_max}
-use Rattle.scans.specs.Scan.{Scan}
-use Rattle.scans.specs.RefusalTable.{first}
-use Rattle.scans.specs.Reason.{reason}
-use Rattle.knot.specs.Machine.{refusal, Numbers}
-use Rattle.following.specs.Machine.{neighbour}
+use Rattle.scans.specs.Scan.{scan_of}
+use Rattle.scans.specs.SizeRule.{append_products, first_too_large}
+use Rattle.scans.specs.RefusalTable.{first, bad_form}
+use Rattle.knot.specs.Machine.{too_large as spot_of}
 use Rattle.knot.specs.declared.table.Refusal.TheVariants as Refusals
-use Rattle.scans.proofs.Reason.{no_reason}
-use Rattle.knot.proofs.Numbers.{numbers, passed, failed}
-use Rattle.block.specs.Fields.{kind, position, grade, payload}
+use Rattle.following.specs.Machine.{neighbour}
+use Rattle.block.specs.Fields.{kind, position, grade}
 use Rattle.block.specs.Bytes.{words}
-use Rattle.block.specs.Reading.{reading_words, knot_causes, reading_causes, knots_causes}
-use Rattle.block.proofs.Reason.{reading-others}
-use Rattle.block.proofs.Steps.{knot-found}
-use Rattle.block_reader.proofs.reader.Come.{fault, tested, Coefficients, refuses, too_large, one_more, from_wrong}
-use Rattle.block_reader.proofs.reader.Come.{from-size-found, reason-found, from-readings-found, taken}
+use Rattle.block.specs.Reading.{reading_words, knot_causes, reading_causes, end_causes}
+use Rattle.block.proofs.Reason.{reading-others, end-others}
+use Rattle.block_reader.proofs.reader.Come.{last, neighbour_last, Coefficients, AtWord, one_stored, word-found, from_wrong}
+use Rattle.block_reader.proofs.reader.Come.{from-size-found, reason-found, from-readings-found, taken, at_end, all_listed, accepts, refuses, too_large}
 use Rattle.block_reader.proofs.reader.read_knots.Goals as goal
+use Rattle.block_reader.proofs.reader.read_knots.Goals.{After-grade-m, After-follow_reason, else-loop-j-test, then-loop-j-test+in-2+else-j-m}
 
--- the knot word's fields stand where it was loaded from
-word_passed : (last : Option Scan) {found : Option ℕ} {n w v : ℕ} → w ≡ v → found ≡ first (knot_causes last w) → Numbers n found → n ≡ 0 →
-    first (knot_causes last v) ≡ none
-word_passed last is e numbered z = sym (ap (λ u. first (knot_causes last u)) is) ∙ sym e ∙ passed numbered z
+-- the knot's word and its fields, after the knot that is lent
+module _ (c : After-grade-m) where
+  low : c.grade-m.result ≤ grade_max
+  low = omega (arith, c.grade-m.ensures)
 
--- all coefficient words are read
-all_read : (ws : List ℕ) (i m : ℕ) (c : List ℤ) (j : ℕ) → Coefficients ws i m c j → m < j → Coefficients ws i m c (m + 1)
-all_read ws i m c j come h = let e : j ≡ m + 1 = omega (arith, come.within) in rw e at come
+  last_is : neighbour c.last-last.result ≡ last c.loop-k.knots c.loop-k.k
+  last_is = neighbour_last c.last-last.result c.loop-k.knots c.loop-k.k (omega (arith, c.loop-k.invariant.room)) c.last-last.ensures.value
 
--- a coefficient is kept as it was read
-stored : (ws : List ℕ) (i m j : ℕ) (l : List ℤ) {z y : ℤ} → SFits w32 z → z ≡ y → Coefficients ws i m (set l j y) (j + 1) →
-    Coefficients ws i m (set l j (to_z w32 (of_z w32 z))) (j + 1)
-stored ws i m j l fits e come = rw (to_z-of_z fits, e) come
+  word : (x : ℕ) → x ≡ position (get_or (words c.args.block.now) c.loop-k.i 0) →
+      AtWord c.args.edition (words c.args.block.now) c.args.count c.loop-k.knots c.loop-k.k c.loop-k.i x c.grade-m.result
+  word x x_is = record {
+    come = c.loop-k.invariant;
+    due = c.loop-k-test.true;
+    passed = ap₂ (λ l w. first (knot_causes l w)) (sym last_is) (sym c.load-word.ensures.value) ∙ sym c.in_default.ensures;
+    x_is = x_is;
+    m_is = c.grade-m.ensures ∙ ap grade c.load-word.ensures.value;
+  }
 
 pub loop-j-preserved : goal.loop-j-preserved
 loop-j-preserved c =
-    let ws = words c.args.block.now in
-    let m = c.grade-m.result in
-    let l = c.loop-j in
-    let most : m ≤ grade_max = omega (arith, c.grade-m.ensures) in
-    let two : c.kind.result ≡ 2 = omega arith in
-    stored ws c.words.i m l.j l.coefficients (record { sfits = c.payload.type_inv }) (c.payload.ensures ∙ ap payload c.load-word-in-loop-j.ensures.value)
-    (one_more ws c.words.i m l.coefficients l.j l.invariant c.loop-j-test.true
-    (sym (ap kind c.load-word-in-loop-j.ensures.value) ∙ sym c.kind.ensures ∙ two) most)
+    one_stored (words c.args.block.now) c.loop-k.i c.grade-m.result c.loop-j.coefficients c.loop-j.j c.load-word-in-loop-j.result c.payload.result
+    c.loop-j.invariant c.loop-j-test.true (omega (arith, c.grade-m.ensures)) c.load-word-in-loop-j.ensures.value (sym c.kind.ensures ∙ c.in-2.is)
+    (record { sfits = c.payload.type_inv }) c.payload.ensures
 
-pub words-preserved : goal.words-preserved
-words-preserved c =
-    let ws = words c.args.block.now in
-    let m = c.grade-m.result in
-    let l = c.loop-j in
-    let w = c.words in
-    let counts = c.count_readings-readings.ensures in
-    let quiet = passed counts.number c.if-fault-ne0-2.false in (
-      taken c.args.edition ws c.args.count w.knots w.last w.k w.i w.invariant.0 c.if-count-k.false
-          c.position.result m l.coefficients
-          (word_passed (neighbour w.last) c.load-word.ensures.value c.knot_fault.ensures c.number-fault.ensures c.if-fault-ne0.false)
-          (c.position.ensures ∙ ap position c.load-word.ensures.value) (c.grade-m.ensures ∙ ap grade c.load-word.ensures.value)
-          (all_read ws w.i m l.coefficients l.j l.invariant c.loop-j-test.false)
-          (sym c.in_default-follow_reason.ensures) c.count_readings-readings.result.count (counts.count quiet)
-          c.requires (omega (arith, c.grade-m.ensures)) counts.few quiet,
-      w.invariant.1,
-    )
+-- all its coefficients are read, and its size is tested
+module _ (c : After-follow_reason) where
+  read : Coefficients (words c.args.block.now) c.loop-k.i c.grade-m.result c.loop-j-test.coefficients (c.grade-m.result + 1)
+  read = elim c.loop-j-test.branch [
+    | else-loop-j-test w ↦
+        let all : c.loop-j.j ≡ c.grade-m.result + 1 = omega (arith, c.loop-j.invariant.within) in
+        rw (w.coefficients-is, ← all) c.loop-j.invariant
+    | then-loop-j-test+in-2+else-j-m w ↦
+        let all : c.grade-m.result + 1 ≡ c.loop-j.j + 1 = omega arith in
+        rw (w.coefficients-is, all)
+        (one_stored (words c.args.block.now) c.loop-k.i c.grade-m.result c.loop-j.coefficients c.loop-j.j w.load-word-in-loop-j.result w.payload.result
+        c.loop-j.invariant w.loop-j-test.true (omega (arith, c.grade-m.ensures)) w.load-word-in-loop-j.ensures.value (sym w.kind.ensures ∙ w.in-2.is)
+        (record { sfits = w.payload.type_inv }) w.payload.ensures)
+  ]
 
-pub returns-then-fault-ne0 : goal.returns-then-fault-ne0
-returns-then-fault-ne0 c =
-    let ws = words c.args.block.now in
-    let count = c.args.count in
-    let w = c.words in
-    let last = neighbour w.last in
-    let e = failed c.number-fault.result c.number-fault.ensures c.if-fault-ne0.true in
-    let one : count - w.k ≡ suc (count - (w.k + 1)) = omega arith in
-    refuses _ (fault c.args.edition ws count) (refusal c.knot_fault.result) _ c.number-fault.ensures e
-    (w.invariant.0.faults ∙ ap (λ n. first (knots_causes c.args.edition (length ws - 1) w.k n last (drop w.i ws))) one ∙
-    knot-found c.args.edition (length ws - 1) w.k (count - (w.k + 1)) last ws w.i
-    (sym (ap (λ u. first (knot_causes last u)) c.load-word.ensures.value) ∙ sym c.knot_fault.ensures ∙ e))
-    w.invariant.0.room c.requires w.invariant.1
-    (ap (λ f. reason f (tested c.args.edition ws count)) c.knot_fault.ensures ∙
-    no_reason (knot_causes last c.load-word.result) (tested c.args.edition ws count) (refl, (refl, (refl, tt))))
+  x_is : c.position.result ≡ position (get_or (words c.args.block.now) c.loop-k.i 0)
+  x_is = c.position.ensures ∙ ap position c.load-word.ensures.value
 
-numbered-form : {n : ℕ} → n ≡ 1 → Numbers n (some 1)
-numbered-form e = rw e (numbers Refusals.Form)
+  tested_as : neighbour c.last-last.result ≡ last c.loop-k.knots c.loop-k.k →
+      first_too_large (append_products c.loop-k.k (last c.loop-k.knots c.loop-k.k)
+      (scan_of c.position.result (take (c.grade-m.result + 1) c.loop-j-test.coefficients))) ≡ spot_of c.follow_reason.result
+  tested_as is =
+      ap (λ l. first_too_large (append_products c.loop-k.k l (scan_of c.position.result (take (c.grade-m.result + 1) c.loop-j-test.coefficients)))) (sym is) ∙
+      sym c.follow_reason.ensures
 
-pub returns-in_default : goal.returns-in_default
-returns-in_default c =
-    let ws = words c.args.block.now in
-    let count = c.args.count in
-    let w = c.words in
-    let l = c.loop-j in
-    let one = ap some (sym c.number-refusal-in_default.ensures) in
-    let other : kind (get_or ws (w.i + 1 + l.j) 0) ≡ 2 → ⊥ = λ e. omega (arith, c.kind.ensures ∙ ap kind c.load-word-in-loop-j.ensures.value) in
-    refuses _ (fault c.args.edition ws count) (some 1) _ (numbered-form c.number-refusal-in_default.ensures) one
-    (from_wrong c.args.edition ws count w.knots w.last w.k w.i w.invariant.0 c.if-count-k.false
-    (position (get_or ws w.i 0)) c.grade-m.result l.coefficients
-    (word_passed (neighbour w.last) c.load-word.ensures.value c.knot_fault.ensures c.number-fault.ensures c.if-fault-ne0.false)
-    refl (c.grade-m.ensures ∙ ap grade c.load-word.ensures.value) l.j l.invariant c.loop-j-test.true other ∙
-    one)
-    w.invariant.0.room c.requires w.invariant.1 refl
+pub loop-k-preserved : goal.loop-k-preserved
+loop-k-preserved c =
+    let at = goal.at.loop-k-preserved c in
+    let shared = at.After-follow_reason in
+    let counts = c.in-Ok.ensures in
+    taken (word at.After-grade-m c.position.result (x_is shared)) (read shared)
+    (tested_as shared (last_is at.After-grade-m) ∙ ap spot_of c.in_default-follow_reason.is) c.in-Ok.readings counts.count _ refl c.requires
+    (low at.After-grade-m) counts.few (sym counts.fault)
 
-pub returns-in-TooLarge : goal.returns-in-TooLarge
-returns-in-TooLarge c =
+pub returns-in_err-end_fault : goal.returns-in_err-end_fault
+returns-in_err-end_fault c =
     let ws = words c.args.block.now in
-    let count = c.args.count in
-    let w = c.words in
-    let l = c.loop-j in
-    let m = c.grade-m.result in
-    let found = sym c.in-TooLarge.ensures in
-    let here = word_passed (neighbour w.last) c.load-word.ensures.value c.knot_fault.ensures c.number-fault.ensures c.if-fault-ne0.false in
-    let x_is = c.position.ensures ∙ ap position c.load-word.ensures.value in
-    let m_is = c.grade-m.ensures ∙ ap grade c.load-word.ensures.value in
-    let done = all_read ws w.i m l.coefficients l.j l.invariant c.loop-j-test.false in
-    too_large _ (fault c.args.edition ws count) _ c.number-refusal-in-TooLarge.ensures
-    (from-size-found c.args.edition ws count w.knots w.last w.k w.i w.invariant.0 c.if-count-k.false
-    c.position.result m l.coefficients here x_is m_is done found)
-    (reason-found c.args.edition ws count w.knots w.last w.k w.i w.invariant.0 c.if-count-k.false
-    c.position.result m l.coefficients here x_is m_is done found)
-    refl w.invariant.0.room c.requires
+    let failed = err_from_is_err_and c.from_residual.result c.from_residual.ensures.1 in
+    let all : c.loop-k.k ≡ c.args.count = omega arith in
+    let here = c.in_err-end_fault.ensures in
+    rw (failed.1, failed.2)
+    (refuses _ (end_causes (length ws - 1) (drop c.loop-k.i ws)) (end-others (length ws - 1) (drop c.loop-k.i ws)) here
+    (at_end c.loop-k.invariant all ∙ sym here))
 
-pub returns-then-fault-ne0-2 : goal.returns-then-fault-ne0-2
-returns-then-fault-ne0-2 c =
-    let ws = words c.args.block.now in
-    let count = c.args.count in
-    let w = c.words in
-    let l = c.loop-j in
-    let m = c.grade-m.result in
-    let counts = c.count_readings-readings.ensures in
-    let readings = reading_words c.args.edition (drop (w.i + m + 2) ws) in
-    let h = failed c.count_readings-readings.result.refusal counts.number c.if-fault-ne0-2.true in
-    refuses _ (fault c.args.edition ws count) (first (reading_causes 0 readings)) _ counts.number h
-    (from-readings-found c.args.edition ws count w.knots w.last w.k w.i w.invariant.0 c.if-count-k.false
-    c.position.result m l.coefficients
-    (word_passed (neighbour w.last) c.load-word.ensures.value c.knot_fault.ensures c.number-fault.ensures c.if-fault-ne0.false)
-    (c.position.ensures ∙ ap position c.load-word.ensures.value) (c.grade-m.ensures ∙ ap grade c.load-word.ensures.value)
-    (all_read ws w.i m l.coefficients l.j l.invariant c.loop-j-test.false)
-    (sym c.in_default-follow_reason.ensures) h)
-    w.invariant.0.room c.requires w.invariant.1
-    (no_reason (reading_causes 0 readings) (tested c.args.edition ws count) (reading-others 0 readings))
+pub returns-in-Err : goal.returns-in-Err
+returns-in-Err c =
+    let is = neighbour_last c.last-last.result c.loop-k.knots c.loop-k.k (omega (arith, c.loop-k.invariant.room)) c.last-last.ensures.value in
+    let here = c.in-Err.ensures ∙ ap₂ (λ l w. first (knot_causes l w)) is c.load-word.ensures.value in
+    refuses c.in-Err.cause (knot_causes (last c.loop-k.knots c.loop-k.k) (get_or (words c.args.block.now) c.loop-k.i 0)) (refl, (refl, (refl, tt))) here
+    (word-found c.loop-k.invariant c.loop-k-test.true (sym here))
+
+pub returns-in_default-kind : goal.returns-in_default-kind
+returns-in_default-kind c =
+    let other : kind (get_or (words c.args.block.now) (c.loop-k.i + 1 + c.loop-j.j) 0) ≡ 2 → ⊥ = λ e.
+    omega (arith, c.kind.ensures ∙ ap kind c.load-word-in-loop-j.ensures.value) in
+    refuses Refusals.Form (bad_form true ∷ []) (refl, tt) refl
+    (from_wrong (word (goal.at.returns-in_default-kind c).After-grade-m _ refl) c.loop-j.j c.loop-j.invariant c.loop-j-test.true other)
+
+pub returns-in-Err-follow_reason : goal.returns-in-Err-follow_reason
+returns-in-Err-follow_reason c =
+    let at = goal.at.returns-in-Err-follow_reason c in
+    let shared = at.After-follow_reason in
+    let here = word at.After-grade-m c.position.result (x_is shared) in
+    let found = tested_as shared (last_is at.After-grade-m) ∙ ap spot_of c.in-Err-follow_reason.is in
+    too_large c.in-Err-follow_reason.spot (from-size-found here (read shared) found) (reason-found here (read shared) found)
+
+pub returns-in-Err-count_readings : goal.returns-in-Err-count_readings
+returns-in-Err-count_readings c =
+    let at = goal.at.returns-in-Err-count_readings c in
+    let shared = at.After-follow_reason in
+    let readings = reading_words c.args.edition (drop (c.loop-k.i + c.grade-m.result + 2) (words c.args.block.now)) in
+    let here = c.in-Err-count_readings.ensures.fault in
+    refuses c.in-Err-count_readings.cause (reading_causes 0 readings) (reading-others 0 readings) here
+    (from-readings-found (word at.After-grade-m c.position.result (x_is shared)) (read shared)
+    (tested_as shared (last_is at.After-grade-m) ∙ ap spot_of c.in_default-follow_reason.is) (sym here))
+
+pub returns-in_ok-end_fault : goal.returns-in_ok-end_fault
+returns-in_ok-end_fault c =
+    let all : c.loop-k.k ≡ c.args.count = omega arith in
+    accepts _ (at_end c.loop-k.invariant all ∙ sym c.in_ok-end_fault.ensures) (all_listed c.loop-k.invariant all)
