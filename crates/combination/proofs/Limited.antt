@@ -9,7 +9,7 @@ use native.Mathlib.Nat.{one-le-pow, le-mul_of_pos_right}
 use native.Mathlib.Omega.{arith}
 use lib.Dec.{ltb}
 use lib.IntN.{ℤ, pos, nat_abs, ◌+ℤ◌, ◌*ℤ◌}
-use lib.ListN.{length, get_or, take, length-map}
+use lib.ListN.{length, get_or, take, length-map, get_or-map}
 use Rattle.integer.proofs.Within.{size-within}
 use Rattle.hermite.specs.Polynomial.{◌⊕◌, ◌⊙◌}
 use Rattle.rounding.specs.Limits.{size_max}
@@ -39,15 +39,10 @@ limited-test c p h = go (dec_le (nat_abs c) size_max)
 
 -- ---- a list
 
-limited_at : (C : List ℤ) (j : ℕ) → get_or (map limited C) j (pos 0) ≡ limited (get_or C j (pos 0))
-limited_at [] j = refl
-limited_at (c ∷ C) zero = refl
-limited_at (c ∷ C) (suc j) = limited_at C j
-
 limited-products : (k h : ℕ) (C : List ℤ) → 1 ≤ h → first_too_large (products k h (map limited C)) ≡ first_too_large (products k h C)
 limited-products k h C b =
     products-same k h (map limited C) C (length-map C limited)
-    (λ j. ap (λ z. ltb size_max (nat_abs z * h ^ j)) (limited_at C j) ∙ limited-test (get_or C j (pos 0)) (h ^ j) (one-le-pow j h b))
+    (λ j. ap (λ z. ltb size_max (nat_abs z * h ^ j)) (get_or-map limited C j (pos 0)) ∙ limited-test (get_or C j (pos 0)) (h ^ j) (one-le-pow j h b))
 
 all_small : (C : List ℤ) → ((j : ℕ) → j < length C → nat_abs (get_or C j (pos 0)) ≤ size_max) → map limited C ≡ C
 all_small [] h = refl
@@ -72,11 +67,6 @@ limited-scan k (some held) s placed e =
     (limited_is h (left_list s) (omega (arith, placed.above held refl)) (kept_sized k h (left_list s) (follows-new k (some held) s e)))
 
 -- ---- the first n coefficients
-
-pub take-map : {A B : Type 0} (f : A → B) (n : ℕ) (l : List A) → take n (map f l) ≡ map f (take n l)
-take-map f zero l = refl
-take-map f (suc n) [] = refl
-take-map f (suc n) (x ∷ l) = ap (λ m. f x ∷ m) (take-map f n l)
 
 pub take-⊙ : (x : ℤ) (n : ℕ) (a : List ℤ) → take n (x ⊙ a) ≡ x ⊙ take n a
 unfolding ◌⊙◌

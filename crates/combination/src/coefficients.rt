@@ -1,12 +1,13 @@
 // αA + βB, coefficient by coefficient, formed on 64 bits.
-ghost use Rattle.std.specs.Prelude.{map, ◌≡◌, ◌+◌, ◌+ℤ◌, ◌*ℤ◌, length};
+ghost use Rattle.std.specs.Prelude.{map, ◌≡◌, ◌+ℤ◌, ◌*ℤ◌};
 ghost use Rattle.integer.specs.Within.{Within};
 ghost use Rattle.hermite.specs.Polynomial.{◌⊕◌, ◌⊙◌};
-ghost use Rattle.rounding.specs.Limits.{grade_max, multiplier_max};
+ghost use Rattle.rounding.specs.Limits.{multiplier_max};
 ghost use Rattle.combination.specs.Machine.{limited};
 
 use knot::{COEFFICIENTS_MAX, SIZE_MAX};
 use magnitude::magnitude;
+use std::array;
 
 // One coefficient as a knot holds it. One above 2^28 in size breaks the size rule at every gap; it is tested before it
 // is narrowed, and 2^28 + 1 stands for it, which breaks the rule at every gap too: so the same order is named.
@@ -25,19 +26,12 @@ fn coefficient(alpha: i32, a: i32, beta: i32, b: i32) -> i32
 // All eight places: those past a knot's grade are free, and stay so.
 pub fn combined_list(
     alpha: i32,
-    a: [i32; COEFFICIENTS_MAX],
+    a: &[i32; COEFFICIENTS_MAX],
     beta: i32,
-    b: [i32; COEFFICIENTS_MAX],
+    b: &[i32; COEFFICIENTS_MAX],
 ) -> [i32; COEFFICIENTS_MAX]
-    requires within { (Within multiplier_max alpha) × (Within multiplier_max beta) }
-    requires a_len { (length a ≡ grade_max + 1) × (length b ≡ grade_max + 1) }
-    ensures { result ≡ map limited (alpha ⊙ a ⊕ beta ⊙ b) }
+    requires { (Within multiplier_max alpha) × (Within multiplier_max beta) }
+    ensures { result ≡ map limited (alpha ⊙ a.now ⊕ beta ⊙ b.now) }
 {
-    let mut c = [0i32; COEFFICIENTS_MAX];
-    let mut j = 0;
-    while j < COEFFICIENTS_MAX {
-        c[j] = coefficient(alpha, a[j], beta, b[j]);
-        j += 1;
-    }
-    c
+    array::from_fn(|j| coefficient(alpha, a[j], beta, b[j]))
 }

@@ -4,4 +4,4 @@
 mod coefficients;
 mod sum;
 
-pub use sum::{Sum, combine};
+pub use sum::combine;
