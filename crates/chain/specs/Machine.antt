@@ -1,23 +1,23 @@
--- What the functions of a chain are given, and what one that sees a single knot of it says.
-use Rattle.std.specs.Prelude.{List, ◌≡◌, ℕ, suc, ◌<◌, length}
-use Rattle.knot.specs.Machine.{Filled, scan, scans_in}
-use Rattle.scans.specs.Scan.{Scan, at}
-use Rattle.scans.specs.Standing.{Standing}
+-- What the functions of a chain are given, and a query position in one of its pieces.
+use Rattle.std.specs.Prelude.{List, ℕ, suc, ◌-◌, ◌≤◌, ◌<◌, length}
+use Rattle.rounding.specs.Piece.{D}
+use Rattle.knot.specs.Machine.{scans}
 use Rattle.knot.specs.declared.held.Knot.{Knot}
-use Rattle.scans.specs.Pieces.{InReel, piece_at, trend_place}
+use Rattle.scans.specs.Scan.{Scan}
+use Rattle.scans.specs.Standing.{Standing}
+use Rattle.scans.specs.Pieces.{InReel, mark, piece_of}
 
--- the first n knots of an array, whose scans can stand
-pub record Chained (knots : List Knot) (n : ℕ) : Type 0 where
-  pub filled : Filled knots n
-  pub standing : Standing (scans_in n knots)
+-- knots whose scans can stand
+abbrev pub Chained : List Knot → Type 0
+Chained knots = Standing (scans knots)
 
 -- and a query position in the reel
-pub record Reached (knots : List Knot) (n x : ℕ) : Type 0 where
-  pub chained : Chained knots n
-  pub within : InReel (scans_in n knots) x
+pub record Reached (knots : List Knot) (x : ℕ) : Type 0 where
+  pub chained : Chained knots
+  pub within : InReel (scans knots) x
 
--- piece j is that of a trend at x, in every list of scans in which document 01 assigns piece k to x and this knot
--- starts piece k
-abbrev pub PieceOfTrend : Knot → ℕ → ℕ → ℕ → Type 0
-PieceOfTrend start k x j = (scans : List Scan) → suc k < length scans → k ≡ piece_at scans x → at scans k ≡ scan start →
-    j ≡ (trend_place scans x).k
+-- query position x lies in piece k
+pub record InPiece (scans : List Scan) (k x : ℕ) : Type 0 where
+  pub piece : suc k < length scans
+  pub starts : mark scans k ≤ x
+  pub ends : x - mark scans k ≤ D (piece_of scans k)

@@ -1,46 +1,32 @@
 // The piece that a query position is in, and the one that its trend is taken from.
 ghost use Rattle.std.specs.Prelude.{◌≡◌};
-ghost use Rattle.knot.specs.Machine.{Graded, scans_in};
-ghost use Rattle.scans.specs.Pieces.{piece_at};
-ghost use Rattle.chain.specs.Machine.{PieceOfTrend, Reached};
+ghost use Rattle.knot.specs.Machine.{scans};
+ghost use Rattle.scans.specs.Pieces.{piece_at, trend_place};
+ghost use Rattle.chain.specs.Machine.{Reached};
 
-use knot::{KNOTS_MAX, Knot};
+use knot::Knot;
 use rounding::POSITION_UNIT;
 
-// Bisection: the first piece that ends after x, or else the last. Piece `low` starts at x or before it, and piece
-// `high`, where there is one, after it.
-pub fn piece_at(knots: [Knot; KNOTS_MAX], count: usize, x: u32) -> usize
-    requires { Reached knots count x }
-    ensures { result ≡ piece_at (scans_in count knots) x }
+// The first piece that ends after x, or else the last: so many of the inner knots, which start a piece and end one, lie
+// at x or before it.
+pub fn piece_at(knots: &[Knot], x: u32) -> usize
+    requires { Reached knots.now x }
+    ensures { result ≡ piece_at (scans knots.now) x }
 {
-    let mut low = 0;
-    let mut high = count - 1;
-    while low + 1 < high {
-        let middle = low + (high - low) / 2;
-        let knot = knots[middle];
-        if (POSITION_UNIT * knot.position as u64) <= x as u64 {
-            low = middle;
-        } else {
-            high = middle;
-        }
-    }
-    low
+    let inner = &knots[1..knots.len() - 1];
+    inner.partition_point(|knot| POSITION_UNIT * u64::from(knot.position) <= u64::from(x))
 }
 
-// The piece of a trend at x, where document 01 assigns piece k, which starts at this knot: at a lone reading the piece
-// on its left. A knot that starts a piece is not the last. Only the knot is given, since an array would be copied.
-pub fn piece_of_trend(start: Knot, k: usize, x: u32) -> usize
-    requires { Graded start }
-    ensures { PieceOfTrend start k x result }
+// The piece of a trend at x: at a lone reading, an inner knot of grade 0, the piece on its left; elsewhere the one that
+// document 01 assigns. A knot that starts a piece is not the last.
+pub fn piece_of_trend(knots: &[Knot], x: u32) -> usize
+    requires { Reached knots.now x }
+    ensures { result ≡ (trend_place (scans knots.now) x).k }
 {
-    if k == 0 {
-        return k;
+    let k = piece_at(knots, x);
+    let start = &knots[k];
+    if 0 < k && start.grade == 0 && POSITION_UNIT * u64::from(start.position) == u64::from(x) {
+        return k - 1;
     }
-    if start.grade != 0 {
-        return k;
-    }
-    if POSITION_UNIT * start.position as u64 != x as u64 {
-        return k;
-    }
-    k - 1
+    k
 }
