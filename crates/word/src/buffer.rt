@@ -8,13 +8,11 @@ pub fn load(bytes: &[u8], k: usize) -> u32
     ensures value { result ≡ get_or (words bytes.now) k 0 }
     ensures below { k < length (words bytes.now) → Below (2 ^ 8) bytes.now }
 {
-    if bytes.len() / 4 <= k {
+    let (words, _) = bytes.as_chunks::<4>();
+    let Some(word) = words.get(k) else {
         return 0;
-    }
-    let at = 4 * k;
-    let low = (bytes[at] as u32) | ((bytes[at + 1] as u32) << 8);
-    let high = (bytes[at + 2] as u32) | ((bytes[at + 3] as u32) << 8);
-    low | (high << 16)
+    };
+    u32::from_le_bytes(*word)
 }
 
 // Puts a word in place k.
@@ -22,9 +20,5 @@ pub fn store(bytes: &mut [u8], k: usize, word: u32)
     requires { 4 * k + 4 ≤ length bytes.old }
     ensures { bytes.new ≡ sets bytes.old (4 * k) (bytes_of word) }
 {
-    let at = 4 * k;
-    bytes[at] = (word & 0xff) as u8;
-    bytes[at + 1] = ((word >> 8) & 0xff) as u8;
-    bytes[at + 2] = ((word >> 16) & 0xff) as u8;
-    bytes[at + 3] = ((word >> 24) & 0xff) as u8;
+    bytes[4 * k..4 * k + 4].copy_from_slice(&word.to_le_bytes());
 }

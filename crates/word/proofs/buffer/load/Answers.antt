@@ -1,33 +1,47 @@
--- Four bytes put one above the other are the word at k.
-use Rattle.std.proofs.Common.{◌≡◌, ℕ, ◌+◌, ◌*◌, ◌%◌, ◌^◌, ◌<◌, arith, bit_or, get_or, sym}
-use Rattle.block.specs.Bytes.{joined, words}
-use Rattle.block.proofs.Bytes.{below_all, length-words, word_at}
-use Rattle.word.proofs.Shifts.{put}
-use Rattle.word.proofs.buffer.load.Goals as goal
+-- The word at k is that of the four bytes at k.
+use Rattle.std.proofs.Common.{◌≡◌, ℕ, zero, suc, ◌/◌, ◌^◌, ◌≤◌, ◌<◌, List, [], ◌∷◌, map, length, arith, refl, sym, ◌∙◌, ap, ap₂, w32}
 use Rattle.std.proofs.Math.ListN.{get_or-eq_default}
+use Rattle.std.proofs.lemmas.List.{get_or-map}
+use Rattle.std.specs.Int.{from_le_bytes}
+use Rattle.std.specs.Simd.{first_chunks}
+use Rattle.block.specs.Bytes.{joined, words}
+use Rattle.block.proofs.Bytes.{below_all, length-words}
+use Rattle.word.proofs.buffer.load.Goals as goal
 
-pub returns-then-bytes-k-clause-value : goal.returns-then-bytes-k-clause-value
-returns-then-bytes-k-clause-value c =
+-- the words are those of the bytes four by four
+by_four : (bs : List ℕ) (n : ℕ) → n ≡ length bs / 4 → words bs ≡ map (from_le_bytes w32) (first_chunks 4 n bs)
+by_four [] zero e = refl
+by_four (a ∷ []) zero e = refl
+by_four (a ∷ b ∷ []) zero e = refl
+by_four (a ∷ b ∷ c ∷ []) zero e = refl
+by_four [] (suc n) e = absurd (omega arith)
+by_four (a ∷ []) (suc n) e = absurd (omega arith)
+by_four (a ∷ b ∷ []) (suc n) e = absurd (omega arith)
+by_four (a ∷ b ∷ c ∷ []) (suc n) e = absurd (omega arith)
+by_four (a ∷ b ∷ c ∷ d ∷ bs) zero e = absurd (omega arith)
+by_four (a ∷ b ∷ c ∷ d ∷ bs) (suc n) e =
+    let here : joined a b c d ≡ from_le_bytes w32 (a ∷ b ∷ c ∷ d ∷ []) = omega arith in
+    ap₂ (λ x xs. x ∷ xs) here (by_four bs n (omega arith))
+
+pub returns-in_default-clause-value : goal.returns-in_default-clause-value
+returns-in_default-clause-value c =
     let bs = c.args.bytes.now in
-    sym (get_or-eq_default (words bs) 0 (omega (arith, length-words bs)))
+    let past : length c.as_chunks.result.0.now ≤ c.args.k = c.in_default.ensures.lookup.3 in
+    sym (get_or-eq_default (words bs) 0 (omega (arith, length-words bs, c.as_chunks.ensures.front_len)))
 
-pub returns-then-bytes-k-clause-below : goal.returns-then-bytes-k-clause-below
-returns-then-bytes-k-clause-below c h = absurd (omega (arith, length-words c.args.bytes.now))
-
--- two bytes put together, twice, and the two pairs
-four : (a b c d : ℕ) → a < 2 ^ 8 → b < 2 ^ 8 → c < 2 ^ 8 → d < 2 ^ 8 →
-    bit_or (bit_or a (b * 2 ^ 8 % 2 ^ 32)) (bit_or c (d * 2 ^ 8 % 2 ^ 32) * 2 ^ 16 % 2 ^ 32) ≡ joined a b c d
-four a b c d ha hb hc hd =
-    rw (put 8 a b ha (omega arith), put 8 c d hc (omega arith), put 16 (a + 2 ^ 8 * b) (c + 2 ^ 8 * d) (omega arith) (omega arith)) (omega arith)
+pub returns-in_default-clause-below : goal.returns-in_default-clause-below
+returns-in_default-clause-below c h = below_all (2 ^ 8) c.args.bytes.now (λ i. (c.type_inv.bytes i).fits)
 
 pub returns-clause-value : goal.returns-clause-value
 returns-clause-value c =
     let bs = c.args.bytes.now in
-    let k = c.args.k in
-    let byte = c.type_inv.bytes in
-    rw (word_at bs k (omega arith))
-    (four (get_or bs (4 * k) 0) (get_or bs (4 * k + 1) 0) (get_or bs (4 * k + 2) 0) (get_or bs (4 * k + 3) 0)
-    (byte (4 * k)).fits (byte (4 * k + 1)).fits (byte (4 * k + 2)).fits (byte (4 * k + 3)).fits)
+    let quads = c.as_chunks.result.0.now in
+    let quad = c.in-Some.word.now in
+    let within : c.args.k < length quads = c.in-Some.ensures.lookup.3.0 in
+    let all : words bs ≡ map (from_le_bytes w32) quads =
+    by_four bs (length bs / 4) refl ∙ ap (map (from_le_bytes w32)) (sym c.as_chunks.ensures.front) in
+    c.from_le_bytes.ensures ∙ ap (from_le_bytes w32) c.in-Some.ensures.lookup.1 ∙
+    rw all (sym (get_or-map (from_le_bytes w32) quads c.args.k quad 0 within))
 
 pub returns-clause-below : goal.returns-clause-below
 returns-clause-below c h = below_all (2 ^ 8) c.args.bytes.now (λ i. (c.type_inv.bytes i).fits)
