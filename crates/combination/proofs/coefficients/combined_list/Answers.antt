@@ -31,4 +31,4 @@ pub returns : goal.returns
 returns c =
     let made = c.from_fn.ensures.items in
     all-places c.args.alpha c.args.beta c.args.a.now c.args.b.now _ c.told-a c.told-b made.long
-    (from_fn-each _ _ (formed c.args.alpha c.args.beta c.args.a.now c.args.b.now) (λ j x f k. search rules) _ _ made)
+    (from_fn-each _ _ (formed c.args.alpha c.args.beta c.args.a.now c.args.b.now) (λ j x f k. (search rules, search rules)) _ _ made)
