@@ -20,6 +20,7 @@ pub fn read_full<R: Read>(reader: &mut R, buffer: &mut [u8]) -> io::Result<usize
     ensures end { IfOk result (λ n. n < length buffer.new → IsAtEnd (R.remaining reader.new)) }
 {
     let mut done = 0;
+    // no `read_exact`, which does not say how much stood there before the end
     while done < buffer.len() {
         let n = reader.read(&mut buffer[done..])?;
         if n == 0 {

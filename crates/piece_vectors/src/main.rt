@@ -6,7 +6,6 @@
 
 mod admit;
 mod case;
-mod number;
 
 use input::read_full;
 use std::io;
@@ -18,14 +17,12 @@ fn main(rt: HostRuntime) -> io::Result<()> {
     let mut from = rt.stdin();
     let mut out = rt.stdout();
     let mut bytes = [0u8; 80];
-    let mut i = 0;
-    while i < CASES_MAX {
+    for _ in 0..CASES_MAX {
         let got = read_full(&mut from, &mut bytes)?;
         if got < 80 {
             return Ok(());
         }
         case::run(&mut out, &bytes)?;
-        i += 1;
     }
     Ok(())
 }
