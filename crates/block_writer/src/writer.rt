@@ -1,59 +1,47 @@
 // Writing a block: its words one after the other.
 ghost use Rattle.std.specs.Prelude.{◌≡◌, ◌+◌, ◌*◌, ◌≤◌, length as list_length};
 ghost use Rattle.std.proofs.lemmas.List.Edits.{sets};
-ghost use Rattle.knot.specs.Machine.{Filled, Graded, scan, scans_in};
+ghost use Rattle.rounding.specs.Limits.{knots_max};
+ghost use Rattle.knot.specs.Machine.{scan, scans};
 ghost use Rattle.block.specs.Bytes.{bytes};
 ghost use Rattle.block.specs.Block.{block, scan_words, written};
 
 use block::PLAIN_EDITION;
-use knot::{KNOTS_MAX, Knot};
+use knot::Knot;
 use word::{coefficient_word, end_word, header_word, knot_word, store};
 
-// The number of bytes of the block of the first `count` knots.
-pub fn length(knots: [Knot; KNOTS_MAX], count: usize) -> usize
-    requires { Filled knots count }
-    ensures { result ≡ list_length (block (scans_in count knots)) }
+// The number of bytes of the block of these knots: a header, the knots' words and the end word.
+pub fn length(knots: &[Knot]) -> usize
+    requires { list_length knots.now ≤ knots_max }
+    ensures { result ≡ list_length (block (scans knots.now)) }
 {
-    let mut words = 2;
-    let mut k = 0;
-    while k < count {
-        let knot = knots[k];
-        words += knot.grade as usize + 2;
-        k += 1;
-    }
-    4 * words
+    let words: usize = knots.iter().map(|knot| usize::from(knot.grade) + 2).sum();
+    4 * (words + 2)
 }
 
 // Puts a knot's words in the places from i on, and gives the place after them.
-fn write_knot(knot: Knot, out: &mut [u8], i: usize) -> usize
-    requires { (Graded knot) × (4 * (i + (knot.grade + 2)) ≤ list_length out.old) }
-    ensures { (result ≡ i + (knot.grade + 2))
-        × (out.new ≡ sets out.old (4 * i) (bytes (scan_words (scan knot)))) }
+fn write_knot(knot: &Knot, out: &mut [u8], i: usize) -> usize
+    requires { 4 * (i + (knot.now.grade + 2)) ≤ list_length out.old }
+    ensures { (result ≡ i + (knot.now.grade + 2))
+        × (out.new ≡ sets out.old (4 * i) (bytes (scan_words (scan knot.now)))) }
 {
-    let c = knot.coefficients;
-    let m = knot.grade as usize;
     store(out, i, knot_word(knot.position, knot.grade));
-    let mut j = 0;
-    while j <= m {
-        store(out, i + 1 + j, coefficient_word(c[j]));
-        j += 1;
+    let list = knot.list();
+    for (j, c) in list.iter().enumerate() {
+        store(out, i + 1 + j, coefficient_word(*c));
     }
-    i + (m + 2)
+    i + 1 + list.len()
 }
 
 // Puts that block in the first bytes, and gives their number.
-pub fn write(knots: [Knot; KNOTS_MAX], count: usize, out: &mut [u8]) -> usize
-    requires { (Filled knots count) × (list_length (block (scans_in count knots)) ≤ list_length out.old) }
-    ensures { (result ≡ list_length (block (scans_in count knots)))
-        × (out.new ≡ written (scans_in count knots) out.old) }
+pub fn write(knots: &[Knot], out: &mut [u8]) -> usize
+    requires { (list_length knots.now ≤ knots_max) × (list_length (block (scans knots.now)) ≤ list_length out.old) }
+    ensures { (result ≡ list_length (block (scans knots.now))) × (out.new ≡ written (scans knots.now) out.old) }
 {
-    store(out, 0, header_word(count as u8, PLAIN_EDITION));
+    store(out, 0, header_word(knots.len() as u8, PLAIN_EDITION));
     let mut i = 1;
-    let mut k = 0;
-    while k < count {
-        let knot = knots[k];
+    for knot in knots {
         i = write_knot(knot, out, i);
-        k += 1;
     }
     store(out, i, end_word(i as u32));
     4 * (i + 1)
