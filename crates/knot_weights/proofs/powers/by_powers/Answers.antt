@@ -21,7 +21,7 @@ use Rattle.knot_weights.proofs.powers.by_powers.Goals as goal
 
 pub loop-j-init : goal.loop-j-init
 unfolding power_of
-loop-j-init c = record { within = omega arith; power_is = refl; filled = rw c.requires.2 (replaced_zeros _) }
+loop-j-init c = record { power_is = refl; filled = replaced_zeros _ }
 
 -- one turn: z is the base, and power the one of this turn
 module _ (z power : ℤ) (C : List ℤ) (j : ℕ) (is : power ≡ power_of z j) (low : j ≤ grade_max) (near : Within gap_max z) where
@@ -50,7 +50,6 @@ loop-j-preserved c =
     let near = near-bits c.ranges.base c.requires.0 in
     let is = c.loop-j.invariant.power_is in
     record {
-      within = omega arith;
       power_is = computed_is (next_is _ _ c.args.c.now c.loop-j.j is low near) (next_fits _ _ c.args.c.now c.loop-j.j is low near);
       filled =
           replaced_more _ c.loop-j.invariant.filled low

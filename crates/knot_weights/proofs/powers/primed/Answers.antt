@@ -32,13 +32,10 @@ loop-j-preserved c =
     let w = c.args.w.now in
     let j = c.loop-j.j in
     let below : j < 7 = omega arith in
-    let small = c.requires.0.small (j + 1) (omega arith) in
-    record {
-      within = omega arith;
-      filled = replaced_more _ c.loop-j.invariant.filled (omega arith) (computed_is (product_is w j below small) (weight-fits w j below small));
-    }
+    let small = c.requires.small (j + 1) (omega arith) in
+    replaced_more _ c.loop-j.invariant (omega arith) (computed_is (product_is w j below small) (weight-fits w j below small))
 
 pub returns : goal.returns
 unfolding Slope.primed
-returns c = replaced_lists c.loop-j.invariant.filled (λ j h b. sym
-    (ap (λ x. pos (j + 1) *ℤ x) (get_or-eq_default c.args.w.now (pos 0) (omega (arith, c.requires.0.count))) ∙ *ℤ-zero (pos (j + 1))))
+returns c = replaced_lists c.loop-j.invariant (λ j h b. sym
+    (ap (λ x. pos (j + 1) *ℤ x) (get_or-eq_default c.args.w.now (pos 0) (omega (arith, c.requires.count))) ∙ *ℤ-zero (pos (j + 1))))

@@ -1,12 +1,9 @@
--- After j turns the array holds the first j numbers w'.
-use Rattle.std.proofs.Common.{◌-◌, ◌≤◌, pos}
+-- At j the array holds the first j numbers w'.
+use Rattle.std.proofs.Common.{pos}
 use Rattle.hermite.specs.Slope
 use Rattle.hermite.specs.Polynomial.{coefficient}
 use Rattle.knot_weights.proofs.Lists.{Replaced}
 use Rattle.knot_weights.proofs.powers.primed.Given as goal
 
 abbrev pub invariant-loop-j : goal.invariant-loop-j
-invariant-loop-j l = record { within : l.j ≤ 7; filled : Replaced l.v (λ j. pos 0) (Slope.primed (coefficient l.w)) l.j }
-
-abbrev pub decreases-loop-j : goal.decreases-loop-j
-decreases-loop-j l = 7 - l.j
+invariant-loop-j l = Replaced l.v (λ j. pos 0) (Slope.primed (coefficient l.w)) l.j
