@@ -16,7 +16,7 @@ use Rattle.rounding.specs.Scaling.{scaled_times}
 use Rattle.rounding.proofs.Agree.{Agree, steps_1_and_2_agree, lower_half_sum-agree}
 use Rattle.rounding.proofs.Bounds.{g_within, descended-fits, primed-within}
 use Rattle.knot_weights.specs.Machine.{Weights}
-use Rattle.scaling.specs.Machine.{Complements, Prepared}
+use Rattle.scaling.specs.Machine.{Complements}
 use Rattle.scaling.specs.declared.fraction.Fraction.{Fraction}
 use Rattle.scaling.proofs.Complements.{numerator_is, by_complement}
 use Rattle.half_sum.specs.Machine.{steps_1_and_2, lower_steps_1_and_2, lower_step_3}
@@ -41,10 +41,10 @@ module _ {s t : Fraction} (pair : Complements s t) (m n : ℕ) {w v : ℕ → �
 
 -- ---- that u fits
 
-module _ {s : Fraction} (prepared : Prepared s) (n : ℕ) (hn : n ≤ 7) where
+module _ (s : Fraction) (n : ℕ) (hn : n ≤ 7) where
   fit : (m : ℕ) → m ≤ 7 → (w : ℕ → ℤ) → ((j : ℕ) → j ≤ m → Within (7 * size_max) (w j)) → Within (2 ^ 63 - 1) (steps_1_and_2 m n s.a s.d w)
   fit m hm w small =
-      descended-fits (g n w) s.a s.d m 0 prepared.divides.at_least prepared.proper (omega arith)
+      descended-fits (g n w) s.a s.d m 0 s.divides.at_least s.proper (omega arith)
       (λ j k. g_within (7 * size_max) n j w hn (omega arith) (λ i l. small i (omega arith)))
 
   lower-fit : (m : ℕ) → m ≤ 7 → (w : ℕ → ℤ) → ((j : ℕ) → j ≤ m → Within size_max (w j)) → Within (2 ^ 63 - 1) (lower_steps_1_and_2 m n s.a s.d w)

@@ -5,8 +5,9 @@ use Prim.Native.Nat.{ℕ, zero, suc, ◌+◌, ◌*◌, ◌-◌, ◌^◌, ◌≤�
 use native.Mathlib.Nat.{le_trans, mul-le-mul_right, pow-le-pow_right, pow-suc}
 use native.Mathlib.Omega.{arith}
 use lib.Dec.{lit<, lit≤}
-use lib.IntN.{ℤ}
+use lib.IntN.{ℤ, pos, ◌+ℤ◌, +ℤ_idl}
 use lib.ListN.{length}
+use Rattle.integer.specs.Sum
 use Rattle.integer.specs.Within.{Within}
 use Rattle.integer.proofs.Sum.{sum_cong}
 use Rattle.integer.proofs.Within.{within-sum, within_more, shares-most}
@@ -37,6 +38,22 @@ pub more-rounds : (w : List ℤ) {v u : List ℤ} (k j : ℕ) → Lists v (round
     Lists u (rounds (k + j) (coefficient w))
 more-rounds w k j first then =
     record { count = then.count; entry = λ i h. then.entry i h ∙ agree k first.entry i h ∙ after k j (coefficient w) i }
+
+-- ---- one round, entry by entry
+
+-- the sum of the entries below one
+unfoldable pub sum_below : (ℕ → ℤ) → ℕ → ℤ
+sum_below w zero = pos 0
+sum_below w (suc i) = rounds 1 w i
+
+pub sum_below-more : (w : ℕ → ℤ) (i : ℕ) → sum_below w i +ℤ w i ≡ rounds 1 w i
+unfolding sum_below rounds one_round Sum.sum
+sum_below-more w zero = +ℤ_idl (w 0)
+sum_below-more w (suc i) = refl
+
+pub none_is : (w : ℕ → ℤ) (j : ℕ) → rounds 0 w j ≡ w j
+unfolding rounds
+none_is w j = refl
 
 -- ---- that they fit
 

@@ -12,18 +12,16 @@ fn one_round(w: &mut [i64; 8])
     requires { Room 1 w.old }
     ensures { Lists w.new (RunningSums.rounds 1 (coefficient w.old)) }
 {
-    let mut sum = w[0];
-    let mut ahead = 7;
-    while 0 < ahead {
-        let j = 8 - ahead;
-        sum += w[j];
-        w[j] = sum;
-        ahead -= 1;
+    let mut sum = 0;
+    for x in w.iter_mut() {
+        sum += *x;
+        *x = sum;
     }
 }
 
 // Rounds two, four and eight at a time: from one of them to the next the compiler keeps the 8 numbers in registers.
-// Of a loop over rounds it makes a polynomial in their count, which is slower.
+// One function with a const parameter for the count is slower: of its loop the compiler makes a polynomial, and
+// `rounds` takes 2,980,865 instructions over the stored pieces in place of 1,990,151.
 fn two_rounds(w: &mut [i64; 8])
     requires { Room 2 w.old }
     ensures { Lists w.new (RunningSums.rounds 2 (coefficient w.old)) }

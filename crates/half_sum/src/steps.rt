@@ -4,7 +4,6 @@ ghost use Rattle.hermite.specs.HalfSum.{g};
 ghost use Rattle.hermite.specs.Polynomial.{coefficient};
 ghost use Rattle.rounding.specs.HalfSum;
 ghost use Rattle.rounding.specs.Limits.{grade_max, size_max};
-ghost use Rattle.scaling.specs.Machine.{Prepared};
 ghost use Rattle.half_sum.specs.Machine.{steps_1_and_2, lower_steps_1_and_2, lower_step_3};
 ghost use Rattle.integer.specs.Within.{Within};
 ghost use Rattle.knot_weights.specs.Machine.{Lists, Weights};
@@ -21,13 +20,11 @@ const HALF_SUM_OF_GRADE_MINUS_ONE: i64 = 0;
 
 // Step 2: u from m down to 0, over the sums g_i, each at most 6,435 times the greatest weight.
 fn descended(m: usize, s: Fraction, g: &[i64]) -> i64
-    requires { (m ≤ grade_max) × (Prepared s) × (Weights (6435 * (7 * size_max)) g.now) }
+    requires { (m ≤ grade_max) × (Weights (6435 * (7 * size_max)) g.now) }
     ensures { result ≡ HalfSum.descended (coefficient g.now) s.a s.d m 0 }
 {
-    let mut i = m;
-    let mut u = VALUE_UNIT * g[i];
-    while 0 < i {
-        i -= 1;
+    let mut u = VALUE_UNIT * g[m];
+    for i in (0..m).rev() {
         u = scaled(u, s) + VALUE_UNIT * g[i];
     }
     u
@@ -36,7 +33,7 @@ fn descended(m: usize, s: Fraction, g: &[i64]) -> i64
 // Steps 1 and 2 of the half-sum of m against n: u. The array that the weights come in is the only one: n+1 rounds leave
 // g_0 to g_7 in it, and step 2 reads them there. Step 3 is `scaled_times`, n+1 times by (d−a)/d.
 pub fn steps_1_and_2(m: usize, n: usize, s: Fraction, w: &mut [i64; 8]) -> i64
-    requires { (m ≤ grade_max) × (n ≤ grade_max) × (Prepared s) × (Weights (7 * size_max) w.old) }
+    requires { (m ≤ grade_max) × (n ≤ grade_max) × (Weights (7 * size_max) w.old) }
     ensures { (result ≡ steps_1_and_2 m n s.a s.d (coefficient w.old))
         × (Lists w.new (g n (coefficient w.old))) }
 {
@@ -46,7 +43,7 @@ pub fn steps_1_and_2(m: usize, n: usize, s: Fraction, w: &mut [i64; 8]) -> i64
 
 // The same for the half-sum of m−1 against n on w', in the array of w'.
 pub fn lower_steps_1_and_2(m: usize, n: usize, s: Fraction, w: &[i64]) -> i64
-    requires { (m ≤ grade_max) × (n ≤ grade_max) × (Prepared s) × (Weights size_max w.now) }
+    requires { (m ≤ grade_max) × (n ≤ grade_max) × (Weights size_max w.now) }
     ensures { result ≡ lower_steps_1_and_2 m n s.a s.d (coefficient w.now) }
 {
     if m == 0 {
@@ -59,7 +56,7 @@ pub fn lower_steps_1_and_2(m: usize, n: usize, s: Fraction, w: &[i64]) -> i64
 
 // Step 3 of that half-sum; of grade −1 there is nothing to scale.
 pub fn lower_step_3(m: usize, n: usize, complement: Fraction, u: i64) -> i64
-    requires { (n ≤ grade_max) × (Prepared complement) × (Within (2 ^ 63 - 1) u) }
+    requires { (n ≤ grade_max) × (Within (2 ^ 63 - 1) u) }
     ensures { result ≡ lower_step_3 m n complement.a complement.d u }
 {
     if m == 0 {

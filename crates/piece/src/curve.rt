@@ -1,11 +1,13 @@
 // A piece at distance r from its left knot, in 1/256 step: value, in 1/65,536 count, and trend, in 1/65,536 count
-// per step.
+// per step. Gap and knots are arguments of their own, since docs/READING.md has the contracts of `value`, `trend` and
+// `water::total` in this form.
 ghost use Rattle.std.specs.Prelude.{◌≡◌, ◌*◌, ◌≤◌};
 ghost use Rattle.rounding.specs.Piece.{piece, position_unit};
 ghost use Rattle.rounding.specs.Size.{Admitted};
 ghost use Rattle.rounding.specs.Trend;
 ghost use Rattle.rounding.specs.Value;
 
+use super::place::Place;
 use super::slope::{scaled_k, sum_k};
 use half_sum::{lower_step_3, lower_steps_1_and_2, steps_1_and_2};
 use knot_weights::{right_weights, weights};
@@ -21,8 +23,7 @@ pub fn value(h: u64, left: &[i32], right: &[i32], r: u64) -> i64
     let m = left.len() - 1;
     let n = right.len() - 1;
     let divisor = Divisor::of(h);
-    let s = Fraction::of(r, divisor);
-    let complement = Fraction::of(divisor.d - r, divisor);
+    let Place { s, complement } = Place::of(r, divisor);
     let mut p = [0i64; 8];
     weights(h, left, &mut p);
     let mut w = [0i64; 8];
@@ -43,8 +44,8 @@ pub fn trend(h: u64, left: &[i32], right: &[i32], r: u64) -> i64
     let m = left.len() - 1;
     let n = right.len() - 1;
     let divisor = Divisor::of(h);
-    let s = Fraction::of(r, divisor);
-    let complement = Fraction::of(divisor.d - r, divisor);
+    let place = Place::of(r, divisor);
+    let Place { s, complement } = place;
     let mut p = [0i64; 8];
     weights(h, left, &mut p);
     let mut w = [0i64; 8];
@@ -54,6 +55,6 @@ pub fn trend(h: u64, left: &[i32], right: &[i32], r: u64) -> i64
     let k = sum_k(n, m, &mut w) - sum_k(m, n, &mut p);
     let y1 = lower_step_3(m, n, complement, u);
     let y2 = lower_step_3(n, m, s, v);
-    let y3 = scaled_k(m, n, s, complement, k);
+    let y3 = scaled_k(m, n, place, k);
     scaled(y1 - y2 + y3, Fraction::of(POSITION_UNIT, divisor))
 }

@@ -2,6 +2,7 @@
 #![tactic(auto)]
 
 mod curve;
+mod place;
 mod slope;
 
 pub use curve::{trend, value};

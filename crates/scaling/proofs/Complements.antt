@@ -1,11 +1,15 @@
--- A fraction a/d and its complement (d−a)/d, both prepared.
-use mathlib.Core.Path.{◌≡◌, refl, sym, ◌∙◌}
-use Prim.Native.Nat.{ℕ, ◌-◌, ◌≤◌}
+-- A fraction a/d and its complement (d−a)/d, both prepared, as every fraction is.
+use mathlib.Core.Path.{◌≡◌, refl, sym}
+use Prim.Native.Nat.{ℕ, ◌-◌}
 use native.Mathlib.Omega.{arith}
 use lib.IntN.{ℤ}
 use Rattle.rounding.specs.Scaling.{scaled_times}
 use Rattle.scaling.specs.Machine.{Complements, Prepared}
 use Rattle.scaling.specs.declared.fraction.Fraction.{Fraction}
+
+-- by what the type keeps
+pub prepared : (s : Fraction) → Prepared s
+prepared s = record { divides = s.divides; proper = s.proper; quotient = s.quotient; below = s.below; biased = s.biased }
 
 -- seen from the other end
 pub exchanged : {s t : Fraction} → Complements s t → Complements t s
@@ -14,15 +18,6 @@ exchanged pair = record {
   other = pair.prepared;
   divisor = sym pair.divisor;
   together = omega (arith, pair.together, pair.divisor);
-}
-
--- as they are made: of one divisor d, by a and by d − a
-pub complements : {s t : Fraction} {a d : ℕ} → a ≤ d → (s.a ≡ a) × (s.d ≡ d) × (Prepared s) → (t.a ≡ d - a) × (t.d ≡ d) × (Prepared t) → Complements s t
-complements proper first second = record {
-  prepared = first.2;
-  other = second.2;
-  divisor = second.1 ∙ sym first.1;
-  together = omega (arith, first.0, first.1, second.0);
 }
 
 pub numerator_is : {s t : Fraction} → Complements s t → t.a ≡ s.d - s.a

@@ -1,1 +1,2 @@
+pub mod Divides
 pub mod Machine

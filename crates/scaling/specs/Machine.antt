@@ -1,17 +1,10 @@
 -- A fraction in machine integers, prepared for scaling: document 01's a/D.
-use Rattle.std.specs.Prelude.{◌≡◌, ℕ, ◌+◌, ◌*◌, ◌/◌, ◌^◌, ◌≤◌, ◌<◌}
-use Rattle.rounding.specs.Limits.{gap_max}
-use Rattle.rounding.specs.Piece.{position_unit}
+use Rattle.std.specs.Prelude.{◌≡◌, ◌+◌, ◌*◌, ◌/◌, ◌^◌, ◌≤◌, ◌<◌}
+use Rattle.scaling.specs.Divides.{Divides}
 use Rattle.scaling.specs.declared.fraction.Fraction.{Fraction}
 
--- what a divisor holds: d, at most 4,096, the greatest D there can be, and its reciprocal in parts of 2^64
-pub record Divides (d reciprocal : ℕ) : Type 0 where
-  pub at_least : 0 < d
-  pub at_most : d ≤ position_unit * gap_max
-  pub in_parts : reciprocal ≡ 2 ^ 64 / d + 1
-
 -- what a prepared fraction holds: a/d from 0 to 1, the quotient and the rest of a × 2^32 by d, and the bias: d × 2^32,
--- and half of d more, so that rounding down gives the nearest
+-- and half of d more, so that rounding down gives the nearest; each `Fraction` keeps it, as its ghost fields
 pub record Prepared (s : Fraction) : Type 0 where
   pub divides : Divides s.d s.reciprocal
   pub proper : s.a ≤ s.d

@@ -1,8 +1,8 @@
 // Scaling by a fraction, to the nearest, without a division and without a branch. Every scaling of the engine is a call
 // of `scaled`.
-ghost use Rattle.std.specs.Prelude.{◌≡◌, ◌*◌, ◌/◌, ◌≤◌, ◌<◌, ◌^◌, ◌-◌};
+ghost use Rattle.std.specs.Prelude.{◌≡◌, ◌+◌, ◌*◌, ◌/◌, ◌≤◌, ◌<◌, ◌^◌, ◌-◌};
 ghost use Rattle.integer.specs.Within.{Within};
-ghost use Rattle.scaling.specs.Machine.{Divides, Prepared};
+ghost use Rattle.scaling.specs.Divides.{Divides};
 ghost use Rattle.rounding.specs.Limits.{gap_max};
 ghost use Rattle.rounding.specs.Piece.{position_unit};
 ghost use Rattle.rounding.specs.Scaling;
@@ -16,13 +16,14 @@ use rounding::POSITION_UNIT;
 pub struct Divisor {
     pub d: u64,
     reciprocal: u64,
+    ghost divides: { Divides d reciprocal },
 }
 
 impl Divisor {
     // D of a piece of h steps.
     pub fn of(h: u64) -> Self
         requires { (0 < h) × (h ≤ gap_max) }
-        ensures { (result.d ≡ position_unit * h) × (Divides result.d result.reciprocal) }
+        ensures { result.d ≡ position_unit * h }
     {
         Self {
             d: POSITION_UNIT * h,
@@ -32,7 +33,8 @@ impl Divisor {
 }
 
 // The upper 64 of the 128 bits of x × y, from the four products of their halves: the compiler makes one multiplication
-// of it.
+// of it. A product in `u128` has no columns, which the edits `carry_of_the_columns_lost` and
+// `product_of_the_wrong_halves` spoil.
 fn high_product(x: u64, y: u64) -> u64
     ensures { result ≡ x * y / 2 ^ 64 }
 {
@@ -56,13 +58,18 @@ pub struct Fraction {
     rest: u64,
     bias: u64,
     reciprocal: u64,
+    ghost divides: { Divides d reciprocal },
+    ghost proper: { a ≤ d },
+    ghost quotient: { whole * d + rest ≡ a * 2 ^ 32 },
+    ghost below: { rest < d },
+    ghost biased: { bias ≡ d * 2 ^ 32 + d / 2 },
 }
 
 impl Fraction {
     // a/d. Quotient and rest come from the reciprocal, so that no further division is made.
     pub fn of(a: u64, divisor: Divisor) -> Self
-        requires { (a ≤ divisor.d) × (Divides divisor.d divisor.reciprocal) }
-        ensures { (result.a ≡ a) × (result.d ≡ divisor.d) × (Prepared result) }
+        requires { a ≤ divisor.d }
+        ensures { (result.a ≡ a) × (result.d ≡ divisor.d) }
     {
         let d = divisor.d;
         let reciprocal = divisor.reciprocal;
@@ -83,7 +90,7 @@ impl Fraction {
 // 2^32 × d + d/2, makes what is divided there a natural below 2^46, which its product with the reciprocal divides
 // exactly, and comes off again as 2^32; its d/2 stays, as the half that rounds to the nearest.
 pub fn scaled(u: i64, s: Fraction) -> i64
-    requires { (Prepared s) × (Within (2 ^ 63 - 1) u) }
+    requires { Within (2 ^ 63 - 1) u }
     ensures { result ≡ Scaling.scaled u s.a s.d }
 {
     let high = u >> 32;
@@ -94,14 +101,12 @@ pub fn scaled(u: i64, s: Fraction) -> i64
 
 // u scaled by a/d, k times.
 pub fn scaled_times(k: usize, u: i64, s: Fraction) -> i64
-    requires { (Prepared s) × (Within (2 ^ 63 - 1) u) }
+    requires { Within (2 ^ 63 - 1) u }
     ensures { result ≡ scaled_times k u s.a s.d }
 {
     let mut v = u;
-    let mut i = 0;
-    while i < k {
+    for _ in 0..k {
         v = scaled(v, s);
-        i += 1;
     }
     v
 }

@@ -15,7 +15,6 @@ use Rattle.integer.proofs.Within.{within-natural, within_more, within-neg, withi
 use Rattle.integer.proofs.Difference.{differences}
 use Rattle.rounding.specs.Scaling.{scaled}
 use Rattle.rounding.proofs.Scaling.{half-added}
-use Rattle.scaling.specs.Machine.{Prepared}
 use Rattle.scaling.specs.declared.fraction.Fraction.{Fraction}
 
 -- ---- the halves
@@ -60,35 +59,35 @@ product-fits (negsuc k) x h l b = minus_fits (suc k * x) (omega (arith, mul-le-m
 
 -- ---- the steps of a scaling by a prepared fraction
 
-module _ (u : ℤ) (s : Fraction) (known : Prepared s) (within : Within (2 ^ 63 - 1) u) where
+module _ (u : ℤ) (s : Fraction) (within : Within (2 ^ 63 - 1) u) where
   low-most : low u * s.a ≤ (2 ^ 32 - 1) * 4096
   low-most =
       let below : low u ≤ 2 ^ 32 - 1 = omega (arith, low_below u) in
-      let most : s.a ≤ 4096 = omega (arith, known.proper, known.divides.at_most) in
+      let most : s.a ≤ 4096 = omega (arith, s.proper, s.divides.at_most) in
       mul-le-mul below most
 
   -- low × a + bias
   pub biased-most : low u * s.a + s.bias ≤ 2 ^ 45
-  biased-most = omega (arith, low-most, known.biased, known.divides.at_most)
+  biased-most = omega (arith, low-most, s.biased, s.divides.at_most)
 
   -- what is divided by d: high × rest + (low × a + bias)
   abbrev pub dividend : ℕ
   dividend = up (high u) * s.rest + (low u * s.a + s.bias) - dn (high u) * s.rest
 
   pub dividend_is : high u *ℤ pos s.rest +ℤ pos (low u * s.a + s.bias) ≡ pos dividend
-  dividend_is = natural (high u) s.rest (low u * s.a + s.bias) (omega (arith, mul-le-mul (high_dn u within) known.below, known.biased))
+  dividend_is = natural (high u) s.rest (low u * s.a + s.bias) (omega (arith, mul-le-mul (high_dn u within) s.below, s.biased))
 
   pub dividend-most : dividend ≤ 2 ^ 46
   dividend-most =
-      let most : s.rest ≤ 4096 = omega (arith, known.below, known.divides.at_most) in
+      let most : s.rest ≤ 4096 = omega (arith, s.below, s.divides.at_most) in
       omega (arith, biased-most, mul-le-mul (high_up u within) most)
 
   pub rest-fits : SFits w64 (high u *ℤ pos s.rest)
-  rest-fits = product-fits (high u) s.rest (high_up u within) (high_dn u within) (omega (arith, known.below, known.divides.at_most))
+  rest-fits = product-fits (high u) s.rest (high_up u within) (high_dn u within) (omega (arith, s.below, s.divides.at_most))
 
   pub whole-most : s.whole ≤ 2 ^ 32
   whole-most =
-      le_of_mul-le-mul_right {n = 2 ^ 32} {k = s.d} (omega (arith, known.quotient, known.proper)) known.divides.at_least
+      le_of_mul-le-mul_right {n = 2 ^ 32} {k = s.d} (omega (arith, s.quotient, s.proper)) s.divides.at_least
 
   pub whole-fits : SFits w64 (high u *ℤ pos s.whole)
   whole-fits = product-fits (high u) s.whole (high_up u within) (high_dn u within) whole-most
@@ -96,16 +95,16 @@ module _ (u : ℤ) (s : Fraction) (known : Prepared s) (within : Within (2 ^ 63 
   -- divided by d, it is its high product with the reciprocal
   pub quotient_is : dividend * s.reciprocal / 2 ^ 64 ≡ dividend / s.d
   quotient_is =
-      rw known.divides.in_parts
-      (by_reciprocal (2 ^ 64) s.d dividend known.divides.at_least (omega (arith, mul-le-mul dividend-most known.divides.at_most)))
+      rw s.divides.in_parts
+      (by_reciprocal (2 ^ 64) s.d dividend s.divides.at_least (omega (arith, mul-le-mul dividend-most s.divides.at_most)))
 
   -- the steps together
   pub steps-are : high u *ℤ pos s.whole +ℤ (pos (dividend / s.d) -ℤ pos (2 ^ 32)) ≡ scaled u s.a s.d
   unfolding scaled
   steps-are =
-      half-added (u *ℤ pos s.a) _ s.d known.divides.at_least
+      half-added (u *ℤ pos s.a) _ s.d s.divides.at_least
       (floor_of_product (2 ^ 32) s.a s.d (s.d / 2) (low u) s.whole s.rest s.bias dividend u (high u)
-      known.divides.at_least (halves u within) known.quotient known.biased dividend_is)
+      s.divides.at_least (halves u within) s.quotient s.biased dividend_is)
 
   -- and what is added to high × whole
   pub quotient-most : dividend / s.d ≤ 2 ^ 46

@@ -18,12 +18,11 @@ use Rattle.rounding.specs.Limits.{size_max, grade_max}
 use Rattle.rounding.specs.Scaling.{scaled}
 use Rattle.rounding.proofs.Bounds.{descended-fits}
 use Rattle.knot_weights.specs.Machine.{Weights}
-use Rattle.scaling.specs.Machine.{Prepared}
 use Rattle.scaling.specs.declared.fraction.Fraction.{Fraction}
 use Rattle.half_sum.proofs.steps.descended.Goals as goal
 
 -- at a fraction s and the sums G
-module _ (s : Fraction) (G : List ℤ) (prepared : Prepared s) (weights : Weights (6435 * (7 * size_max)) G) where
+module _ (s : Fraction) (G : List ℤ) (weights : Weights (6435 * (7 * size_max)) G) where
   unit-is : (j : ℕ) → j ≤ 7 → pos value_unit *ℤ to_z w64 (of_z w64 (coefficient G j)) ≡ pos value_unit *ℤ coefficient G j
   unit-is j h = ap (λ z. pos value_unit *ℤ z) (to_z-of_z (within-fits w64 (coefficient G j) (lit< tt) (weights.small j h)))
 
@@ -31,7 +30,7 @@ module _ (s : Fraction) (G : List ℤ) (prepared : Prepared s) (weights : Weight
   unit-fits j h = within-fits w64 _ (lit< tt) (within_mul (pos value_unit) (coefficient G j) (within-natural value_unit) (weights.small j h))
 
   u-within : (k i : ℕ) → i + k ≤ 7 → Within (2 ^ 63 - 1) (descended (coefficient G) s.a s.d k i)
-  u-within k i h = descended-fits (coefficient G) s.a s.d k i prepared.divides.at_least prepared.proper h (λ j l. weights.small j (omega arith))
+  u-within k i h = descended-fits (coefficient G) s.a s.d k i s.divides.at_least s.proper h (λ j l. weights.small j (omega arith))
 
   u-fits : (k i : ℕ) → i + k ≤ 7 → SFits w64 (descended (coefficient G) s.a s.d k i)
   u-fits k i h = within-fits w64 _ (lit< tt) (u-within k i h)
@@ -50,35 +49,26 @@ module _ (s : Fraction) (G : List ℤ) (prepared : Prepared s) (weights : Weight
 pub loop-i-preserved : goal.loop-i-preserved
 loop-i-preserved c =
     let i = c.loop-i.i in
-    let v = c.loop-i.invariant in
-    let u_is = turn c.args.s c.args.g.now c.requires.1 c.requires.2 c.args.m i _ c.scaled.result c.requires.0 v.within c.loop-i-test.true v.u_is
-    c.scaled.type_inv c.scaled.ensures in
-    record {
-      within = omega arith;
-      u_is = computed_is u_is (u-fits c.args.s c.args.g.now c.requires.1 c.requires.2 (c.args.m - (i - 1)) (i - 1) (omega arith));
-    }
+    let u_is = turn c.args.s c.args.g.now c.requires.1 c.args.m i _ c.scaled.result c.requires.0 c.loop-i.auto.i c.loop-i-test.true
+    c.loop-i.invariant c.scaled.type_inv c.scaled.ensures in
+    computed_is u_is (u-fits c.args.s c.args.g.now c.requires.1 (c.args.m - (i - 1)) (i - 1) (omega arith))
 
 pub loop-i-init : goal.loop-i-init
 unfolding descended
 loop-i-init c =
     let m = c.args.m in
     let none : m - m ≡ 0 = omega arith in
-    record {
-      within = omega arith;
-      u_is = rw none (computed_is (unit-is c.args.s c.args.g.now c.requires.1 c.requires.2 m c.requires.0)
-          (unit-fits c.args.s c.args.g.now c.requires.1 c.requires.2 m c.requires.0));
-    }
+    rw none
+    (computed_is (unit-is c.args.s c.args.g.now c.requires.1 m c.requires.0) (unit-fits c.args.s c.args.g.now c.requires.1 m c.requires.0))
 
 pub scaled-requires : goal.scaled-requires
-scaled-requires c = (
-  c.requires.1,
-  rw c.loop-i.invariant.u_is (u-within c.args.s c.args.g.now c.requires.1 c.requires.2 (c.args.m - c.loop-i.i) c.loop-i.i (omega arith)),
-)
+scaled-requires c =
+    rw c.loop-i.invariant
+    (u-within c.args.s c.args.g.now c.requires.1 (c.args.m - c.loop-i.i) c.loop-i.i (omega arith))
 
 pub overflow_add-u : goal.overflow_add-u
 overflow_add-u c =
     let i = c.loop-i.i in
-    let v = c.loop-i.invariant in
-    let u_is = turn c.args.s c.args.g.now c.requires.1 c.requires.2 c.args.m i _ c.scaled.result c.requires.0 v.within c.loop-i-test.true v.u_is
-    c.scaled.type_inv c.scaled.ensures in
-    rw u_is (u-fits c.args.s c.args.g.now c.requires.1 c.requires.2 (c.args.m - (i - 1)) (i - 1) (omega arith))
+    let u_is = turn c.args.s c.args.g.now c.requires.1 c.args.m i _ c.scaled.result c.requires.0 c.loop-i.auto.i c.loop-i-test.true
+    c.loop-i.invariant c.scaled.type_inv c.scaled.ensures in
+    rw u_is (u-fits c.args.s c.args.g.now c.requires.1 (c.args.m - (i - 1)) (i - 1) (omega arith))

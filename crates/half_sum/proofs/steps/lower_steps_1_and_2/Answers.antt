@@ -16,7 +16,7 @@ unfolding lower_steps_1_and_2
 returns-then-m-eq0 c = rw c.if-m-eq0.true refl
 
 pub steps_1_and_2-requires : goal.steps_1_and_2-requires
-steps_1_and_2-requires c = (omega arith, c.requires.1, c.requires.2, primed-weights c.requires.3 c.primed.ensures)
+steps_1_and_2-requires c = (omega arith, c.requires.1, primed-weights c.requires.2 c.primed.ensures)
 
 one_lower : (m k n a d : ℕ) (w : ℕ → ℤ) → m ≡ suc k → steps_1_and_2 k n a d (primed w) ≡ lower_steps_1_and_2 m n a d w
 unfolding lower_steps_1_and_2

@@ -14,11 +14,10 @@ pub descended-requires : goal.descended-requires
 descended-requires c =
     let g = lists-sums c.args.n c.args.w.now c.rounds.ensures in (
       c.requires.0,
-      c.requires.2,
       record {
         count = g.count;
         small = λ j h. rw (g.entry j h)
-            (g_within (7 * size_max) c.args.n j (coefficient c.args.w.now) c.requires.1 h (λ i k. c.requires.3.small i (omega arith)));
+            (g_within (7 * size_max) c.args.n j (coefficient c.args.w.now) c.requires.1 h (λ i k. c.requires.2.small i (omega arith)));
       },
     )
 

@@ -28,7 +28,7 @@ use Rattle.knot_weights.proofs.Lists.{listed-weights}
 use Rattle.integer.proofs.Within.{within-fits, computed_is, result_is}
 use Rattle.scaling.specs.Machine.{Complements}
 use Rattle.scaling.specs.declared.fraction.Fraction.{Fraction}
-use Rattle.scaling.proofs.Complements.{complements, exchanged}
+use Rattle.scaling.proofs.Complements.{exchanged}
 use Rattle.piece.proofs.curve.trend.Goals as goal
 use Rattle.piece.proofs.curve.trend.Goals.{After-right_weights}
 
@@ -46,19 +46,19 @@ module _ (e : After-right_weights) where
 
   -- the fractions r/D and (D−r)/D
   abbrev s : Fraction
-  s = e.of-s.result
+  s = e.of-place.result.s
 
   abbrev t : Fraction
-  t = e.of-complement.result
+  t = e.of-place.result.complement
 
   D_is : s.d ≡ D (P e)
-  D_is = e.of-s.ensures.1 ∙ e.of-divisor.ensures.0
+  D_is = e.of-place.ensures.1 ∙ e.of-divisor.ensures
 
   pair : Complements s t
-  pair = complements (omega (arith, e.of-divisor.ensures.0)) e.of-s.ensures e.of-complement.ensures
+  pair = e.of-place.result.complements
 
   complement_is : t.a ≡ D (P e) - e.args.r
-  complement_is = omega (arith, pair.together, D_is, e.of-s.ensures.0)
+  complement_is = omega (arith, pair.together, D_is, e.of-place.ensures.0)
 
   -- the arrays of weights
   left_small : Weights size_max e.weights.new.w
@@ -75,10 +75,10 @@ module _ (e : After-right_weights) where
   V = lower_steps_1_and_2 (n (P e)) (m (P e)) t.a t.d (coefficient e.right_weights.new.w)
 
   U_within : Within (2 ^ 63 - 1) U
-  U_within = lower-steps_1_and_2_fit pair.prepared (n (P e)) (right-grade (P e) admitted) (m (P e)) (left-grade (P e) admitted) left_small
+  U_within = lower-steps_1_and_2_fit s (n (P e)) (right-grade (P e) admitted) (m (P e)) (left-grade (P e) admitted) left_small
 
   V_within : Within (2 ^ 63 - 1) V
-  V_within = lower-steps_1_and_2_fit pair.other (m (P e)) (left-grade (P e) admitted) (n (P e)) (right-grade (P e) admitted) right_small
+  V_within = lower-steps_1_and_2_fit t (m (P e)) (left-grade (P e) admitted) (n (P e)) (right-grade (P e) admitted) right_small
 
   -- K, from its two sums
   abbrev K_of : ℤ
@@ -100,7 +100,7 @@ module _ (e : After-right_weights) where
   unfolding Y1
   Y1_is is scales =
       lower-half-sum_is pair (m (P e)) (n (P e)) (λ j h. e.weights.ensures.entry j (le_trans h (left-grade (P e) admitted))) is scales ∙
-      ap₂ (λ a d. lower_half_sum (m (P e)) (n (P e)) a d (p (P e))) e.of-s.ensures.0 D_is
+      ap₂ (λ a d. lower_half_sum (m (P e)) (n (P e)) a d (p (P e))) e.of-place.ensures.0 D_is
 
   Y2_is : {v y : ℤ} → v ≡ V → y ≡ lower_step_3 (n (P e)) (m (P e)) s.a s.d v → y ≡ Y2 (P e) e.args.r
   unfolding Y2
@@ -113,7 +113,7 @@ module _ (e : After-right_weights) where
   unfolding Y3
   Y3_is is scales =
       scales ∙ ap (λ k. scaled_k (m (P e)) (n (P e)) s.a s.d k) is ∙
-      ap₂ (λ a d. scaled_k (m (P e)) (n (P e)) a d K_of) e.of-s.ensures.0 D_is
+      ap₂ (λ a d. scaled_k (m (P e)) (n (P e)) a d K_of) e.of-place.ensures.0 D_is
 
   -- Y1 − Y2 + Y3
   abbrev slope : ℤ
@@ -138,7 +138,7 @@ module _ (e : After-right_weights) where
   trend_is : {v z : ℤ} {a d : ℕ} → z ≡ slope → a ≡ position_unit → d ≡ e.of-divisor.result.d → v ≡ scaled z a d → v ≡ trend (P e) e.args.r
   unfolding trend
   trend_is {a = a} {d = d} is a_is d_is scales =
-      scales ∙ ap (λ z. scaled z a d) is ∙ ap₂ (λ x y. scaled slope x y) a_is (d_is ∙ e.of-divisor.ensures.0) ∙
+      scales ∙ ap (λ z. scaled z a d) is ∙ ap₂ (λ x y. scaled slope x y) a_is (d_is ∙ e.of-divisor.ensures) ∙
       divided slope e.args.h e.requires.0.gap_at_least
 
 -- the result first: it is what a wrong step fails to be
@@ -154,7 +154,7 @@ returns c =
 pub lower_steps_1_and_2-v-requires : goal.lower_steps_1_and_2-v-requires
 lower_steps_1_and_2-v-requires c =
     let e = (goal.at.lower_steps_1_and_2-v-requires c).After-right_weights in
-    (right-grade (P e) (admitted e), left-grade (P e) (admitted e), (pair e).other, right_small e)
+    (right-grade (P e) (admitted e), left-grade (P e) (admitted e), right_small e)
 
 pub sum_k-requires : goal.sum_k-requires
 sum_k-requires c =
@@ -169,18 +169,18 @@ overflow_sub-k c =
 pub lower_step_3-y1-requires : goal.lower_step_3-y1-requires
 lower_step_3-y1-requires c =
     let e = (goal.at.lower_step_3-y1-requires c).After-right_weights in
-    (right-grade (P e) (admitted e), (pair e).other, rw (held c.lower_steps_1_and_2-u.type_inv c.lower_steps_1_and_2-u.ensures) (U_within e))
+    (right-grade (P e) (admitted e), rw (held c.lower_steps_1_and_2-u.type_inv c.lower_steps_1_and_2-u.ensures) (U_within e))
 
 pub lower_step_3-y2-requires : goal.lower_step_3-y2-requires
 lower_step_3-y2-requires c =
     let e = (goal.at.lower_step_3-y2-requires c).After-right_weights in
-    (left-grade (P e) (admitted e), (pair e).prepared, rw (held c.lower_steps_1_and_2-v.type_inv c.lower_steps_1_and_2-v.ensures) (V_within e))
+    (left-grade (P e) (admitted e), rw (held c.lower_steps_1_and_2-v.type_inv c.lower_steps_1_and_2-v.ensures) (V_within e))
 
 pub scaled_k-y3-requires : goal.scaled_k-y3-requires
 scaled_k-y3-requires c =
     let e = (goal.at.scaled_k-y3-requires c).After-right_weights in
     let k = K_is e (held c.sum_k.type_inv c.sum_k.ensures.0) (held c.sum_k-2.type_inv c.sum_k-2.ensures.0) in
-    (pair e, rw (computed_is k (K_fits e)) (K_within (P e) (admitted e)))
+    rw (computed_is k (K_fits e)) (K_within (P e) (admitted e))
 
 pub overflow_sub-y1 : goal.overflow_sub-y1
 overflow_sub-y1 c =
@@ -205,4 +205,4 @@ scaled-requires c =
     let y1 = Y1_is e (held c.lower_steps_1_and_2-u.type_inv c.lower_steps_1_and_2-u.ensures) (held c.lower_step_3-y1.type_inv c.lower_step_3-y1.ensures) in
     let y2 = Y2_is e (held c.lower_steps_1_and_2-v.type_inv c.lower_steps_1_and_2-v.ensures) (held c.lower_step_3-y2.type_inv c.lower_step_3-y2.ensures) in
     let y3 = Y3_is e k (held c.scaled_k-y3.type_inv c.scaled_k-y3.ensures) in
-    (c.of.ensures.2, rw (computed_is (slope_is e y1 y2 y3) (slope_fits e)) (slope_small e))
+    rw (computed_is (slope_is e y1 y2 y3) (slope_fits e)) (slope_small e)

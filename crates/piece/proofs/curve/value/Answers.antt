@@ -25,7 +25,7 @@ use Rattle.knot_weights.proofs.Lists.{more-weights, listed-weights}
 use Rattle.integer.proofs.Within.{within-fits, computed_is, result_is}
 use Rattle.scaling.specs.Machine.{Complements}
 use Rattle.scaling.specs.declared.fraction.Fraction.{Fraction}
-use Rattle.scaling.proofs.Complements.{complements, exchanged}
+use Rattle.scaling.proofs.Complements.{exchanged}
 use Rattle.piece.proofs.curve.value.Goals as goal
 use Rattle.piece.proofs.curve.value.Goals.{After-right_weights}
 
@@ -43,19 +43,19 @@ module _ (e : After-right_weights) where
 
   -- the fractions r/D and (D−r)/D
   abbrev s : Fraction
-  s = e.of-s.result
+  s = e.of.result.s
 
   abbrev t : Fraction
-  t = e.of-complement.result
+  t = e.of.result.complement
 
   D_is : s.d ≡ D (P e)
-  D_is = e.of-s.ensures.1 ∙ e.of-divisor.ensures.0
+  D_is = e.of.ensures.1 ∙ e.of-divisor.ensures
 
   pair : Complements s t
-  pair = complements (omega (arith, e.of-divisor.ensures.0)) e.of-s.ensures e.of-complement.ensures
+  pair = e.of.result.complements
 
   complement_is : t.a ≡ D (P e) - e.args.r
-  complement_is = omega (arith, pair.together, D_is, e.of-s.ensures.0)
+  complement_is = omega (arith, pair.together, D_is, e.of.ensures.0)
 
   -- the arrays of weights
   left_small : Weights (7 * size_max) e.weights.new.w
@@ -72,16 +72,16 @@ module _ (e : After-right_weights) where
   V = steps_1_and_2 (n (P e)) (m (P e)) t.a t.d (coefficient e.right_weights.new.w)
 
   U_within : Within (2 ^ 63 - 1) U
-  U_within = steps_1_and_2_fit pair.prepared (n (P e)) (right-grade (P e) admitted) (m (P e)) (left-grade (P e) admitted) left_small
+  U_within = steps_1_and_2_fit s (n (P e)) (right-grade (P e) admitted) (m (P e)) (left-grade (P e) admitted) left_small
 
   V_within : Within (2 ^ 63 - 1) V
-  V_within = steps_1_and_2_fit pair.other (m (P e)) (left-grade (P e) admitted) (n (P e)) (right-grade (P e) admitted) right_small
+  V_within = steps_1_and_2_fit t (m (P e)) (left-grade (P e) admitted) (n (P e)) (right-grade (P e) admitted) right_small
 
   -- the two half-sums, from u and v
   left_is : {u x : ℤ} → u ≡ U → x ≡ scaled_times (n (P e) + 1) u t.a t.d → x ≡ half_sum (m (P e)) (n (P e)) e.args.r (D (P e)) (p (P e))
   left_is is scales =
       half-sum_is pair (m (P e)) (n (P e)) (λ j h. e.weights.ensures.entry j (le_trans h (left-grade (P e) admitted))) is scales ∙
-      ap₂ (λ a d. half_sum (m (P e)) (n (P e)) a d (p (P e))) e.of-s.ensures.0 D_is
+      ap₂ (λ a d. half_sum (m (P e)) (n (P e)) a d (p (P e))) e.of.ensures.0 D_is
 
   right_is : {v y : ℤ} → v ≡ V → y ≡ scaled_times (m (P e) + 1) v s.a s.d →
       y ≡ half_sum (n (P e)) (m (P e)) (D (P e) - e.args.r) (D (P e)) (right_weights (q (P e)))
@@ -110,17 +110,17 @@ returns c =
 pub steps_1_and_2-v-requires : goal.steps_1_and_2-v-requires
 steps_1_and_2-v-requires c =
     let e = (goal.at.steps_1_and_2-v-requires c).After-right_weights in
-    (right-grade (P e) (admitted e), left-grade (P e) (admitted e), (pair e).other, right_small e)
+    (right-grade (P e) (admitted e), left-grade (P e) (admitted e), right_small e)
 
 pub scaled_times-from_left-requires : goal.scaled_times-from_left-requires
 scaled_times-from_left-requires c =
     let e = (goal.at.scaled_times-from_left-requires c).After-right_weights in
-    ((pair e).other, rw (held c.steps_1_and_2-u.type_inv c.steps_1_and_2-u.ensures.0) (U_within e))
+    rw (held c.steps_1_and_2-u.type_inv c.steps_1_and_2-u.ensures.0) (U_within e)
 
 pub scaled_times-from_right-requires : goal.scaled_times-from_right-requires
 scaled_times-from_right-requires c =
     let e = (goal.at.scaled_times-from_right-requires c).After-right_weights in
-    ((pair e).prepared, rw (held c.steps_1_and_2-v.type_inv c.steps_1_and_2-v.ensures.0) (V_within e))
+    rw (held c.steps_1_and_2-v.type_inv c.steps_1_and_2-v.ensures.0) (V_within e)
 
 pub overflow_add-result : goal.overflow_add-result
 overflow_add-result c =

@@ -34,16 +34,14 @@ module _ (k : ℤ) (small : Within (2 * (91520 * size_max)) k) where
 pub returns : goal.returns
 unfolding scaled_k
 returns c =
-    let s = c.args.s in
+    let s = c.args.place.s in
     let u = c.scaled_times-u in
-    result_is c.scaled_times.result c.scaled_times.type_inv ∙ c.scaled_times.ensures ∙ by_complement c.requires.0 c.args.n _ ∙
-    ap (λ z. scaled_times c.args.n z (s.d - s.a) s.d) (first_is c.args.k c.requires.1 c.args.m s.a s.d u.type_inv u.ensures)
+    result_is c.scaled_times.result c.scaled_times.type_inv ∙ c.scaled_times.ensures ∙ by_complement c.args.place.complements c.args.n _ ∙
+    ap (λ z. scaled_times c.args.n z (s.d - s.a) s.d) (first_is c.args.k c.requires c.args.m s.a s.d u.type_inv u.ensures)
 
 pub scaled_times-requires : goal.scaled_times-requires
 scaled_times-requires c =
-    let s = c.requires.0.prepared in
-    let u = c.scaled_times-u in (
-      c.requires.0.other,
-      rw (first_is c.args.k c.requires.1 c.args.m c.args.s.a c.args.s.d u.type_inv u.ensures)
-          (times-within c.args.m _ c.args.s.a c.args.s.d s.divides.at_least s.proper (unit-within c.args.k c.requires.1)),
-    )
+    let s = c.args.place.s in
+    let u = c.scaled_times-u in
+    rw (first_is c.args.k c.requires c.args.m s.a s.d u.type_inv u.ensures)
+    (times-within c.args.m _ s.a s.d s.divides.at_least s.proper (unit-within c.args.k c.requires))

@@ -1,10 +1,7 @@
--- After i turns v is u scaled i times.
-use Rattle.std.proofs.Common.{◌≡◌, ◌-◌, ◌≤◌}
+-- After so many turns v is u scaled as often.
+use Rattle.std.proofs.Common.{◌≡◌}
 use Rattle.rounding.specs.Scaling.{scaled_times}
 use Rattle.scaling.proofs.fraction.scaled_times.Given as goal
 
-abbrev pub invariant-loop-i : goal.invariant-loop-i
-invariant-loop-i l = (l.i ≤ l.k) × (l.v ≡ scaled_times l.i l.u l.s.a l.s.d)
-
-abbrev pub decreases-loop-i : goal.decreases-loop-i
-decreases-loop-i l = l.k - l.i
+abbrev pub invariant-loop : goal.invariant-loop
+invariant-loop l = l.v ≡ scaled_times l.counter l.u l.s.a l.s.d
