@@ -12,21 +12,21 @@ ghost use Rattle.water.specs.Machine.{Entries};
 use crate::table::integral_weights;
 use knot_weights::{right_weights, weights};
 
-// The sum of c_j × w_j over j from 0 to m.
+// The sum of c_j × w_j over j from 0 to m. By index from 1 on, and not by `zip`, since the edits
+// `second_weight_left_out` and `last_weight_for_each` spoil the terms after the first.
 fn weighted(m: usize, c: &[u32], w: &[i64]) -> i64
     requires { (m ≤ grade_max) × (m < length c.now) × (Entries c.now) × (Weights size_max w.now) }
     ensures { result ≡ Sum.sum m (λ j. pos (get_or c.now j 0) *ℤ coefficient w.now j) }
 {
     let mut sum = c[0] as i64 * w[0];
-    let mut j = 0;
-    while j < m {
-        j += 1;
+    for j in 1..m + 1 {
         sum += c[j] as i64 * w[j];
     }
     sum
 }
 
-// The total: each end's weights by their integral weights, and h times the sum.
+// The total: each end's weights by their integral weights, and h times the sum. The arguments of a piece stand apart,
+// as in `piece::value`.
 pub fn total(h: u64, left: &[i32], right: &[i32]) -> i64
     requires { Admitted (piece h left.now right.now) }
     ensures { result ≡ Water.total (piece h left.now right.now) }

@@ -1,9 +1,8 @@
 -- Whole numbers in the machine's 64 bits: sums of products c_j × w_j, of which up to 8 fit.
 use mathlib.Core.Path.{◌≡◌, refl}
 use mathlib.Core.List.{List}
-use Prim.Native.Nat.{ℕ, ◌+◌, ◌*◌, ◌≤◌}
+use Prim.Native.Nat.{ℕ, zero, suc, ◌+◌, ◌-◌, ◌*◌, ◌≤◌}
 use native.Mathlib.Nat.{le_trans, lt_of_le_of_lt, mul-le-mul_right}
-use native.Mathlib.Numerals.{add-one}
 use native.Mathlib.Omega.{arith}
 use lib.Dec.{lit<}
 use lib.IntN.{ℤ, pos, ◌+ℤ◌, ◌*ℤ◌}
@@ -46,7 +45,10 @@ module _ (c : List ℕ) (w : List ℤ) (entries : Entries c) (weights : Weights 
       (λ j k. term-within j (omega arith)))
 
   -- the sum with one term more
-  pub machine_sum : (x : ℤ) (j : ℕ) → j + 1 ≤ 7 → x ≡ sum j (term c w) →
-      x +ℤ to_z w64 (of_z w64 (to_z w64 (get_or c (j + 1) 0) *ℤ to_z w64 (of_z w64 (coefficient w (j + 1))))) ≡ sum (j + 1) (term c w)
+  pub machine_sum : (x : ℤ) (j : ℕ) → 1 ≤ j → j ≤ 7 → x ≡ sum (j - 1) (term c w) →
+      x +ℤ to_z w64 (of_z w64 (to_z w64 (get_or c j 0) *ℤ to_z w64 (of_z w64 (coefficient w j)))) ≡ sum j (term c w)
   unfolding sum
-  machine_sum x j h e = rw (machine_term (j + 1) h, to_z-of_z (term_fits (j + 1) h), e, add-one) refl
+  machine_sum x zero some h e = elim some [ ]
+  machine_sum x (suc j) some h e =
+      let before : suc j - 1 ≡ j = omega arith in
+      rw (machine_term (suc j) h, to_z-of_z (term_fits (suc j) h), e, before) refl
