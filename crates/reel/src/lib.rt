@@ -3,7 +3,6 @@
 
 mod answer;
 mod held;
-mod index;
 mod reasons;
 
 pub use answer::{Answer, Handed};

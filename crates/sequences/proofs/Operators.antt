@@ -8,7 +8,7 @@ use Rattle.scans.specs.RefusalTable.{first}
 use Rattle.block.specs.Reading.{block_causes, list_of}
 use Rattle.block.proofs.Operators.{alike-lists}
 use Rattle.calls.specs.Calls.{Call, Reply, accepted, read, reply_to, standing_after, output}
-use Rattle.reel.specs.Machine.{scans, Held}
+use Rattle.reel.specs.Machine.{scans}
 use Rattle.reel.specs.declared.held.Reel.{Reel}
 use Rattle.sequences.specs.Runs.{Run, done, then}
 use Rattle.sequences.specs.Called.{Called}
@@ -20,11 +20,11 @@ abbrev told : List Call → List Scan → List (Reply × List ℕ)
 told [] standing = []
 told (call ∷ calls) standing = (reply_to call standing, output call standing) ∷ told calls (standing_after call standing)
 
-answers-are : {given : Reel} {calls : List Call} (run : Run Called given calls) → Held given → answers run ≡ told calls (scans given)
-answers-are done held = refl
-answers-are (then {given = given} {action = call} {others = calls} outcome handed does run) held =
-    let d = called_does does held in
-    ap₂ (λ a later. a ∷ later) (ap₂ (λ r o. (r, o)) d.replies d.writes) (answers-are run d.held ∙ ap (told calls) d.leaves)
+answers-are : {given : Reel} {calls : List Call} (run : Run Called given calls) → answers run ≡ told calls (scans given)
+answers-are done = refl
+answers-are (then {given = given} {action = call} {others = calls} outcome handed does run) =
+    let d = called_does does in
+    ap₂ (λ a later. a ∷ later) (ap₂ (λ r o. (r, o)) d.replies d.writes) (answers-are run ∙ ap (told calls) d.leaves)
 
 -- from an accepted read on
 told-read : (bytes : List ℕ) (calls : List Call) (standing : List Scan) → first (block_causes bytes) ≡ none →
@@ -41,5 +41,5 @@ told-alike (alike_reads {calls = calls} {others = others} bytes other alike rest
     sym (told-read other others standing alike.other_accepted)
 
 pub same-answers : SameAnswers
-same-answers calls others alike one other held held-other same run again =
-    answers-are run held ∙ told-alike alike (scans one) ∙ ap (told others) same ∙ sym (answers-are again held-other)
+same-answers calls others alike one other same run again =
+    answers-are run ∙ told-alike alike (scans one) ∙ ap (told others) same ∙ sym (answers-are again)

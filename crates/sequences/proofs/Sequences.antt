@@ -7,7 +7,8 @@ use Rattle.scans.proofs.Distances.{taylor_of}
 use Rattle.calls.specs.Calls.{Call, reply_to, standing_after, output}
 use Rattle.calls.proofs.Standing.{standing-after}
 use Rattle.calls.proofs.Replies.{value-close, trend-close, total_is_exact}
-use Rattle.reel.specs.Machine.{scans, Held, Does}
+use Rattle.reel.specs.Machine.{scans, Does}
+use Rattle.reel.proofs.Scans.{stands}
 use Rattle.reel.specs.declared.held.Reel.{Reel}
 use Rattle.reel.proofs.Contracts.{empty_is}
 use Rattle.sequences.specs.Called.{Outcome, Called}
@@ -15,7 +16,7 @@ use Rattle.sequences.specs.Sequences.{Right, Sequences}
 use Rattle.sequences.proofs.Runs.{every_call}
 use Rattle.sequences.proofs.Called.{called_does}
 
--- of a call on a held reel, all that demand 3 says
+-- of a call on a reel, all that demand 3 says
 right : {call : Call} {given handed : Reel} {outcome : Outcome} (standing : List Scan) → Standing standing →
     scans given ≡ standing → Does call given outcome.answer handed outcome.output → Right call standing outcome handed
 right {call = call} standing st e does =
@@ -31,19 +32,17 @@ right {call = call} standing st e does =
       ends_then = taylor_of (standing_after call standing) (standing-after call standing st);
     }
 
--- the reel is held, and its scans are those that stand
-record Matches (r : Reel) (standing : List Scan) : Type 0 where
-  held : Held r
-  are : scans r ≡ standing
+-- the reel's scans are those that stand
+abbrev Matches : Reel → List Scan → Type 0
+Matches r standing = scans r ≡ standing
 
 -- one call
 step : (call : Call) (given : Reel) (outcome : Outcome) (handed : Reel) (standing : List Scan) →
     Called call given outcome handed → Matches given standing →
     Right call standing outcome handed × Matches handed (standing_after call standing)
 step call given outcome handed standing called matches =
-    let does = called_does called matches.held in
-    let holds = right standing (rw matches.are at matches.held.standing) matches.are does in
-    (holds, record { held = does.held; are = holds.leaves })
+    let holds = right standing (rw matches at (stands given)) matches (called_does called) in
+    (holds, holds.leaves)
 
 pub sequences : Sequences
-sequences begin calls empty run = let is = empty_is begin empty in every_call Matches step run [] (record { held = is.0; are = is.1 })
+sequences begin calls empty run = every_call Matches step run [] (empty_is begin empty)

@@ -7,7 +7,7 @@ use Rattle.scans.specs.Queries.{value_piece}
 use Rattle.scans.specs.Combined.{a}
 use Rattle.calls.specs.Calls.{Call, accepted, value, total}
 use Rattle.calls.specs.Combination.{SumValues, SumReplies}
-use Rattle.reel.specs.Machine.{Held, reply_of, scans}
+use Rattle.reel.specs.Machine.{reply_of, scans}
 use Rattle.reel.specs.declared.held.Reel.{Reel}
 use Rattle.reel.specs.declared.answer.Handed.{Handed}
 use Rattle.reel.proofs.held.Reel.combine.Reads as combine-reads
@@ -38,13 +38,13 @@ pub record SumOf (α β : ℤ) (given other sum : Reel) : Type 0 where
 
 -- so it is wherever a sum of held reels is accepted
 abbrev pub SumsOfReels : Type 0
-SumsOfReels = (α β : ℤ) (given other : Reel) (added : Handed) → Held given → Held other →
+SumsOfReels = (α β : ℤ) (given other : Reel) (added : Handed) →
     CombineCalled α β given other added → reply_of added.answer ≡ accepted → SumOf α β given other added.reel
 
 -- a sum of any held reels is accepted; then at every query position a value of the one, a value of the other and a
 -- value of the sum, each by its own call, satisfy `SumValues`, with m and n of the one's piece
 abbrev pub ValuesOfSums : Type 0
-ValuesOfSums = (α β : ℤ) (given other : Reel) (sum : Handed) → Held given → Held other →
+ValuesOfSums = (α β : ℤ) (given other : Reel) (sum : Handed) →
     CombineCalled α β given other sum → reply_of sum.answer ≡ accepted →
     (x : ℕ) (mine its both : Outcome) (given' other' sum' : Reel) →
     Called (value x) given mine given' → Called (value x) other its other' → Called (value x) sum.reel both sum' →

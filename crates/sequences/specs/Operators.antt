@@ -2,7 +2,7 @@
 use Rattle.std.specs.Prelude.{List, [], ◌∷◌, ◌≡◌, ℕ}
 use Rattle.block.specs.View.{Alike}
 use Rattle.calls.specs.Calls.{Call, Reply, read}
-use Rattle.reel.specs.Machine.{Held, reply_of, scans}
+use Rattle.reel.specs.Machine.{reply_of, scans}
 use Rattle.reel.specs.declared.held.Reel.{Reel}
 use Rattle.sequences.specs.Runs.{Run, done, then}
 use Rattle.sequences.specs.Called.{Called}
@@ -22,6 +22,6 @@ answers (then outcome handed does run) = (reply_of outcome.answer, outcome.outpu
 
 -- from held reels with the same scans two such sequences get the same answers
 abbrev pub SameAnswers : Type 0
-SameAnswers = (calls others : List Call) → AlikeCalls calls others → (one other : Reel) → Held one → Held other →
+SameAnswers = (calls others : List Call) → AlikeCalls calls others → (one other : Reel) →
     scans one ≡ scans other → (run : Run Called one calls) (again : Run Called other others) →
     answers run ≡ answers again

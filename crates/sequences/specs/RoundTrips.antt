@@ -5,7 +5,7 @@ use Rattle.std.specs.Prelude.{List, ◌++◌, ◌≡◌, ℕ, ◌≤◌, pos, le
 use Rattle.block.specs.Block.{plain_edition}
 use Rattle.block.specs.Reading.{edition_of}
 use Rattle.calls.specs.Calls.{accepted, number, read, write}
-use Rattle.reel.specs.Machine.{Held, reply_of, scans}
+use Rattle.reel.specs.Machine.{reply_of, scans}
 use Rattle.reel.specs.declared.held.Reel.{Reel}
 use Rattle.sequences.specs.Called.{Outcome, Called}
 
@@ -18,8 +18,8 @@ pub record ReadBack (outcome : Outcome) (back given : Reel) : Type 0 where
 -- n bytes of that output satisfies `ReadBack`
 abbrev pub WriteRead : Type 0
 WriteRead = (given handed other back : Reel) (wrote outcome : Outcome) (out : List ℕ) (n : ℕ) →
-    Held given → Called (write out) given wrote handed → reply_of wrote.answer ≡ number (pos n) →
-    Held other → Called (read (take n wrote.output)) other outcome back → ReadBack outcome back given
+    Called (write out) given wrote handed → reply_of wrote.answer ≡ number (pos n) →
+    Called (read (take n wrote.output)) other outcome back → ReadBack outcome back given
 
 -- into an output with room for these bytes, a write answers their number; they stand first in the output, and the bytes
 -- after them are as they were
@@ -31,5 +31,5 @@ pub record WrittenAgain (bytes out : List ℕ) (outcome : Outcome) : Type 0 wher
 -- that it hands back satisfies `WrittenAgain`
 abbrev pub ReadWrite : Type 0
 ReadWrite = (given handed back : Reel) (taken outcome : Outcome) (bytes out : List ℕ) →
-    Held given → Called (read bytes) given taken handed → reply_of taken.answer ≡ accepted →
+    Called (read bytes) given taken handed → reply_of taken.answer ≡ accepted →
     edition_of bytes ≡ plain_edition → Called (write out) handed outcome back → WrittenAgain bytes out outcome

@@ -1,108 +1,60 @@
--- The causes that are found of a held reel's knots are those of its scans; and what holds where no cause of a call does.
-use borrow.Author.Tests.{ltb-false, leb-false}
-use mathlib.Core.List.{List}
-use mathlib.Core.Option.{Option, none, some, some-ne-none}
-use mathlib.Core.Path.{◌≡◌, refl, sym, ◌∙◌, ap}
-use Prim.Native.Nat.{ℕ, ◌+◌, ◌*◌, ◌-◌, min, ◌<◌}
+-- What the functions below the reel need of scans that can stand; and what holds of scans where no cause of a call does.
+use borrow.Author.Tests.{ltb-false, leb-false, le-leb, lt-leb}
+use Rattle.std.specs.Prelude.{List, ◌≡◌, ℕ, zero, suc, ◌+◌, ◌≤◌, ◌<◌, ℤ, pos, length}
+use Rattle.std.proofs.Common.{arith, refl}
+use Rattle.std.specs.List.{HoldsAt}
 use native.Mathlib.Decide.{dec_lt}
-use native.Mathlib.Omega.{arith}
-use lib.Dec.{ltb}
-use lib.IntN.{ℤ}
-use lib.ListN.{length}
+use Rattle.std.proofs.Math.Option.{none}
 use Rattle.rounding.specs.Limits.{knots_max}
-use Rattle.scans.specs.Scan.{Scan, scan_of, at, before, after}
-use Rattle.scans.specs.SizeRule.{Product, size_products}
-use Rattle.scans.specs.RefusalTable.{Cause, first}
-use Rattle.scans.specs.Reason.{reason}
-use Rattle.knot.specs.Machine.{scan}
+use Rattle.scans.specs.Scan.{Scan, at, before, after}
+use Rattle.scans.specs.Standing.{Standing}
+use Rattle.scans.specs.RefusalTable.{first}
 use Rattle.scans.proofs.Causes.{quiet}
-use Rattle.scans.proofs.Order.{no_knot_lem, few-query, in_reel}
-use Rattle.scans.specs.Order.{correct_causes, query_causes, range_causes}
-use Rattle.first_cause.specs.Machine.{Finds, FindsAppended, FindsCorrected, CloseBeside, beside}
-use Rattle.first_cause.specs.declared.changes.Found.{Found}
-use Rattle.chain.specs.Machine.{Chained, Reached}
-use Rattle.calls.specs.Calls.{append, correct, value, total, causes, corrected}
-use Rattle.calls.specs.Reason.{tested}
-use Rattle.reel.specs.Machine.{scans, knot_at, Held}
-use Rattle.reel.specs.declared.held.Reel.{Reel}
-use Rattle.reel.proofs.Scans.{length-scans, at_scans, before_is, after_is, gap-before, gap-after}
+use Rattle.scans.proofs.Lists.{there, past}
+use Rattle.scans.proofs.Order.{in_reel}
+use Rattle.calls.specs.Calls.{append, correct, value, causes, number, refused, position_of}
+use Rattle.chain.specs.Machine.{Reached}
+use Rattle.knot.specs.Machine.{scans as scans_in}
+use Rattle.knot.proofs.Lists.{length-scans, at_scans}
+use Rattle.knot.specs.declared.held.Knot.{Knot}
+use Rattle.following.specs.Machine.{CloseBefore, CloseAfter}
+use Rattle.first_cause.specs.Machine.{CloseBeside}
 
--- what a correct finds of a list is what it finds of the same count, neighbours and position
-same-found : (t : Found) (k n m x y : ℕ) (l p r q : Option Scan) (C : List ℤ) → m ≡ n → p ≡ l → y ≡ x → q ≡ r →
-    Finds t (correct_causes k n l x r C) (size_products k l (scan_of x C) r) (scan_of x C) →
-    Finds t (correct_causes k m p y q C) (size_products k p (scan_of y C) q) (scan_of y C)
-same-found t k n m x y l p r q C a b c d f = rw (a, b, c, d) f
+module _ (scans : List Scan) (standing : Standing scans) where
+  close-before : (k : ℕ) → k < length scans → CloseBefore (before scans k) (at scans k).position
+  close-before zero h = tt
+  close-before (suc j) h = rw (there scans j (omega arith)) (standing.gap_at_most j h)
 
--- with no knot k both are refused with 9, whatever would be tested
-both_nine : (t : Found) (A B : List Cause) (P Q : List Product) (s u : Scan) → first A ≡ some 9 → first B ≡ some 9 → Finds t A P s → Finds t B Q u
-both_nine t A B P Q s u a b f = record {
-  verdict = f.verdict ∙ a ∙ sym b;
-  knot = λ none-holds. absurd (some-ne-none _ (sym b ∙ none-holds));
-  reason = f.reason ∙ ap (λ o. reason o P) a ∙ sym (ap (λ o. reason o Q) b);
-}
-
-module _ (r : Reel) (held : Held r) where
-  pub append-room : (x : ℕ) (C : List ℤ) → first (causes (append x C) (scans r)) ≡ none → r.count < knots_max
-  append-room x C e = omega (arith, ltb-false knots_max (length (scans r) + 1) (quiet (causes (append x C) (scans r)) e).0, length-scans r held)
-
-  pub append_finds : (i x : ℕ) (C : List ℤ) (t : Found) → i ≡ r.count - 1 →
-      FindsAppended t r.count (beside (ltb 0 r.count) (knot_at r i)) (scan_of x C) →
-      Finds t (causes (append x C) (scans r)) (tested (append x C) (scans r)) (scan_of x C)
-  append_finds i x C t e f = rw (length-scans r held, ← before_is r held r.count i e (omega arith)) f
-
-  pub correct-there : (k : ℕ) (C : List ℤ) → first (causes (correct k C) (scans r)) ≡ none → k < r.count
-  correct-there k C e = omega (arith, leb-false (length (scans r)) k (quiet (causes (correct k C) (scans r)) e).0, length-scans r held)
-
-  -- the knots beside knot k lie at most 16 steps from it
-  pub correct-close : (k n i j : ℕ) → n ≡ min k (knots_max - 1) → i ≡ n - 1 → j ≡ min (n + 1) (knots_max - 1) → k < r.count →
-      CloseBeside k r.count (knot_at r i) (knot_at r n).position (knot_at r j)
-  correct-close k n i j e p q h =
-      let here : n ≡ k = omega (arith, held.filled.count) in (
-        gap-before r held k i _ (omega arith) h (ap (λ m. (knot_at r m).position) here),
-        gap-after r held k j (scan (knot_at r n)) (omega arith) (ap (λ m. (knot_at r m).position) here),
-      )
-
-  -- with no knot k both answer 9; else the knots beside it are those of the list, and the new one lies where it lies
-  pub correct_finds : (k n i j : ℕ) (C : List ℤ) (t : Found) → n ≡ min k (knots_max - 1) → i ≡ n - 1 → j ≡ min (n + 1) (knots_max - 1) →
-      FindsCorrected t k r.count (knot_at r i) (knot_at r n).position (knot_at r j) C →
-      Finds t (causes (correct k C) (scans r)) (tested (correct k C) (scans r)) (corrected (scans r) k C)
-  correct_finds k n i j C t e p q = go (dec_lt k r.count)
+  close-after : (k : ℕ) → k < length scans → CloseAfter (at scans k).position (after scans k)
+  close-after k h = go (dec_lt (suc k) (length scans))
     where
-      go : Dec (k < r.count) → FindsCorrected t k r.count (knot_at r i) (knot_at r n).position (knot_at r j) C →
-          Finds t (causes (correct k C) (scans r)) (tested (correct k C) (scans r)) (corrected (scans r) k C)
-      go (yes h) =
-          let here : n ≡ k = omega (arith, held.filled.count) in
-          same-found t k r.count (length (scans r)) (knot_at r n).position (at (scans r) k).position (beside (ltb 0 k) (knot_at r i)) (before (scans r) k)
-          (beside (ltb (k + 1) r.count) (knot_at r j)) (after (scans r) k) C
-          (length-scans r held)
-          (sym (before_is r held k i (omega arith) (omega arith)))
-          (ap (λ s. s.position) (at_scans r held k h) ∙ sym (ap (λ m. (knot_at r m).position) here))
-          (sym (after_is r held k j (omega arith)))
-      go (no h) =
-          both_nine t (correct_causes k r.count (beside (ltb 0 k) (knot_at r i)) (knot_at r n).position (beside (ltb (k + 1) r.count) (knot_at r j)) C)
-          (causes (correct k C) (scans r))
-          (size_products k (beside (ltb 0 k) (knot_at r i)) (scan_of (knot_at r n).position C) (beside (ltb (k + 1) r.count) (knot_at r j)))
-          (tested (correct k C) (scans r))
-          (scan_of (knot_at r n).position C) (corrected (scans r) k C)
-          (no_knot_lem k r.count (beside (ltb 0 k) (knot_at r i)) (knot_at r n).position (beside (ltb (k + 1) r.count) (knot_at r j)) C (omega arith))
-          (no_knot_lem k (length (scans r)) (before (scans r) k) (at (scans r) k).position (after (scans r) k) C (omega (arith, length-scans r held)))
+      go : Dec (suc k < length scans) → CloseAfter (at scans k).position (after scans k)
+      go (yes next) = rw (there scans (suc k) next) (standing.gap_at_most k next)
+      go (no last) = rw (past scans (suc k) (omega arith)) tt
 
-  -- a query looks at the first and the last knot
-  pub query-causes : (i x : ℕ) → i ≡ r.count - 1 →
-      first (query_causes r.count (256 * (knot_at r 0).position) (256 * (knot_at r i).position) x) ≡ first (causes (value x) (scans r))
-  query-causes i x e = go (dec_lt r.count 2)
-    where
-      go : Dec (r.count < 2) → first (query_causes r.count (256 * (knot_at r 0).position) (256 * (knot_at r i).position) x) ≡ first (causes (value x) (scans r))
-      go (yes h) = few-query r.count _ _ x h ∙ sym (few-query (length (scans r)) _ _ x (omega (arith, length-scans r held)))
-      go (no h) = rw (length-scans r held, e, at_scans r held 0 (omega arith), at_scans r held (r.count - 1) (omega arith)) refl
+  -- the scans beside scan k lie at most 16 steps from it
+  pub close_beside : (k : ℕ) → k < length scans → CloseBeside scans k
+  close_beside k h = (close-before k h, close-after k h)
 
-  pub range_causes_lem : (i j : ℕ) → first (range_causes r.count i j) ≡ first (causes (total i j) (scans r))
-  range_causes_lem i j = rw (length-scans r held) refl
+-- where no cause of a call holds, there is room for one knot more, or a knot k
+pub append-room : (scans : List Scan) (x : ℕ) (C : List ℤ) → first (causes (append x C) scans) ≡ none → length scans < knots_max
+append-room scans x C e = omega (arith, ltb-false knots_max (length scans + 1) (quiet (causes (append x C) scans) e).0)
 
-  pub chained : Chained r.knots r.count
-  unfolding scans
-  chained = record { filled = held.filled; standing = held.standing }
+pub correct-there : (scans : List Scan) (k : ℕ) (C : List ℤ) → first (causes (correct k C) scans) ≡ none → k < length scans
+correct-there scans k C e = leb-false (length scans) k (quiet (causes (correct k C) scans) e).0
 
-  pub reached : (x : ℕ) → first (causes (value x) (scans r)) ≡ none → Reached r.knots r.count x
-  unfolding scans
-  reached x e = record { chained = chained; within = in_reel (scans r) x e }
+-- the position of a knot that is found in place k of these, and 9 where there is none
+pub position_there : (knots : List Knot) (k : ℕ) (knot : Knot) → (k < length knots) × HoldsAt (λ y. knot ≡ y) knots k →
+    position_of k (scans_in knots) ≡ number (pos knot.position)
+unfolding position_of
+position_there knots k knot h =
+    rw (lt-leb (length (scans_in knots)) k (omega (arith, h.0, length-scans knots)), at_scans knots k knot h.0, ← h.1 knot) refl
+
+pub no_position : (knots : List Knot) (k : ℕ) → length knots ≤ k → position_of k (scans_in knots) ≡ refused 9
+unfolding position_of
+no_position knots k h = rw (le-leb (length (scans_in knots)) k (omega (arith, length-scans knots))) refl
+
+-- and a query position lies in the reel
+pub reached : (knots : List Knot) (scans : List Scan) (x : ℕ) → scans_in knots ≡ scans → Standing scans →
+    first (causes (value x) scans) ≡ none → Reached knots x
+reached knots scans x are standing e = record { chained = rw are standing; within = rw are (in_reel scans x e) }

@@ -3,65 +3,63 @@ use mathlib.Core.Bool.{true, true≢false}
 use mathlib.Core.List.{List, []}
 use mathlib.Core.Option.{none, some}
 use mathlib.Core.Path.{◌≡◌, refl, sym, ◌∙◌, ap}
-use Prim.Native.Nat.{ℕ, ◌≤◌, ◌<◌}
+use Prim.Native.Nat.{ℕ}
 use lib.IntN.{ℤ}
-use lib.ListN.{length}
-use Rattle.rounding.specs.Limits.{knots_max}
 use Rattle.scans.specs.RefusalTable.{first}
+use Rattle.scans.specs.Standing.{Standing}
 use Rattle.scans.specs.Combination.{combination}
 use Rattle.scans.specs.Order.{combination_causes}
 use Rattle.scans.proofs.Combination.{sum-standing}
-use Rattle.knot.specs.Machine.{Filled, Graded, number as refusalNumber}
+use Rattle.knot.specs.Machine.{number as refusalNumber}
 use Rattle.knot.specs.declared.table.Refusal.{Refusal}
 use Rattle.calls.specs.Calls.{Call, accepted, number, causes, changed, changes, says, lent, filled}
 use Rattle.calls.proofs.Combination.{refused-sum-replies, refused-sum-leaves, sum-replies, sum-leaves}
 use Rattle.calls.proofs.Effects.{refusal-replies, refusal-leaves, refusal-writes, acceptance_replies, acceptance_leaves, acceptance_writes}
-use Rattle.reel.specs.Machine.{scans, knot_at, Held, Does, Combines}
+use Rattle.reel.specs.Machine.{scans, Does, Combines}
+use Rattle.reel.proofs.Scans.{stands}
 use Rattle.reel.specs.declared.held.Reel.{Reel}
 use Rattle.reel.specs.declared.answer.Answer.TheVariants as Answers
 use Rattle.reel.specs.declared.answer.Handed.{Handed}
 use Rattle.calls.proofs.Standing.{standing-after}
 
 -- a refused call leaves the reel itself and the output that was lent
-refuses_by : (call : Call) (r : Reel) (cause : Refusal) → Held r → first (causes call (scans r)) ≡ some (refusalNumber cause) →
+refuses_by : (call : Call) (r : Reel) (cause : Refusal) → first (causes call (scans r)) ≡ some (refusalNumber cause) →
     Does call r (Answers.Refused cause) r (lent call)
-refuses_by call r cause held e = record {
+refuses_by call r cause e = record {
   replies = sym (refusal-replies call (scans r) e);
   leaves = sym (refusal-leaves call (scans r) e);
-  held = held;
   refusal_keeps = λ n q. refl;
   no_change_keeps = λ q. refl;
   writes = sym (refusal-writes call (scans r) e);
 }
 
 -- and so does what `refused` hands over
-pub refuses : (call : Call) (r : Reel) (cause : Refusal) (handed : Handed) → Held r → (handed.reel ≡ r) × (handed.answer ≡ Answers.Refused cause) →
+pub refuses : (call : Call) (r : Reel) (cause : Refusal) (handed : Handed) → (handed.reel ≡ r) × (handed.answer ≡ Answers.Refused cause) →
     first (causes call (scans r)) ≡ some (refusalNumber cause) → Does call r handed.answer handed.reel (lent call)
-refuses call r cause handed held is e = rw (is.0, is.1) (refuses_by call r cause held e)
+refuses call r cause handed is e = rw (is.0, is.1) (refuses_by call r cause e)
 
--- an accepted one, of those that change the list and are lent no output
-pub accepts : (call : Call) (r next : Reel) → Held r → first (causes call (scans r)) ≡ none → changes call ≡ true →
+-- an accepted one leaves scans that can stand
+pub changed-stands : (call : Call) (r : Reel) → first (causes call (scans r)) ≡ none → Standing (changed call (scans r))
+changed-stands call r e = rw (acceptance_leaves call (scans r) e) at (standing-after call (scans r) (stands r))
+
+-- and, if it is of those that change the list and are lent no output, this is its promise
+pub accepts : (call : Call) (r next : Reel) → first (causes call (scans r)) ≡ none → changes call ≡ true →
     says call (scans r) ≡ accepted → filled call (scans r) ≡ [] →
-    scans next ≡ changed call (scans r) → length next.knots ≡ knots_max → next.count ≤ knots_max →
-    ((k : ℕ) → k < next.count → Graded (knot_at next k)) → Does call r Answers.Accepted next []
-accepts call r next held e does answer none_lent is room count graded =
-    let leaves = is ∙ sym (acceptance_leaves call (scans r) e) in
-    record {
-      replies = sym (acceptance_replies call (scans r) e ∙ answer);
-      leaves = leaves;
-      held = record { filled = record { room = room; count = count; graded = graded }; standing = rw leaves (standing-after call (scans r) held.standing) };
-      refusal_keeps = λ n q. cc q;
-      no_change_keeps = λ q. absurd (true≢false (sym does ∙ q));
-      writes = sym (acceptance_writes call (scans r) e ∙ none_lent);
-    }
+    scans next ≡ changed call (scans r) → Does call r Answers.Accepted next []
+accepts call r next e does answer none_lent is = record {
+  replies = sym (acceptance_replies call (scans r) e ∙ answer);
+  leaves = is ∙ sym (acceptance_leaves call (scans r) e);
+  refusal_keeps = λ n q. cc q;
+  no_change_keeps = λ q. absurd (true≢false (sym does ∙ q));
+  writes = sym (acceptance_writes call (scans r) e ∙ none_lent);
+}
 
 -- one that answers a number and leaves the reel itself
-pub answers : (call : Call) (r : Reel) (z w : ℤ) (out : List ℕ) → Held r → first (causes call (scans r)) ≡ none → says call (scans r) ≡ number w →
+pub answers : (call : Call) (r : Reel) (z w : ℤ) (out : List ℕ) → first (causes call (scans r)) ≡ none → says call (scans r) ≡ number w →
     z ≡ w → changed call (scans r) ≡ scans r → out ≡ filled call (scans r) → Does call r (Answers.Number z) r out
-answers call r z w out held e answer is stays fills = record {
+answers call r z w out e answer is stays fills = record {
   replies = ap number is ∙ sym (acceptance_replies call (scans r) e ∙ answer);
   leaves = sym (acceptance_leaves call (scans r) e ∙ stays);
-  held = held;
   refusal_keeps = λ n q. refl;
   no_change_keeps = λ q. refl;
   writes = fills ∙ sym (acceptance_writes call (scans r) e);
@@ -69,13 +67,12 @@ answers call r z w out held e answer is stays fills = record {
 
 -- ---- the sum of two reels
 
-module _ (α β : ℤ) (r other : Reel) (held : Held r) where
+module _ (α β : ℤ) (r other : Reel) where
   sum-refuses_by : (cause : Refusal) → first (combination_causes α β (scans r) (scans other)) ≡ some (refusalNumber cause) →
       Combines α β r other (Answers.Refused cause) r
   sum-refuses_by cause e = record {
     replies = sym (refused-sum-replies α β (scans r) (scans other) e);
     leaves = sym (refused-sum-leaves α β (scans r) (scans other) e);
-    held = held;
     refusal_keeps = λ n q. refl;
   }
 
@@ -83,11 +80,13 @@ module _ (α β : ℤ) (r other : Reel) (held : Held r) where
       first (combination_causes α β (scans r) (scans other)) ≡ some (refusalNumber cause) → Combines α β r other handed.answer handed.reel
   sum-refuses cause handed is e = rw (is.0, is.1) (sum-refuses_by cause e)
 
-  pub sum-accepts : (next : Reel) → Held other → first (combination_causes α β (scans r) (scans other)) ≡ none →
-      scans next ≡ combination α β (scans r) (scans other) → Filled next.knots next.count → Combines α β r other Answers.Accepted next
-  sum-accepts next held-other e is filled = record {
+  pub sum-stands : first (combination_causes α β (scans r) (scans other)) ≡ none → Standing (combination α β (scans r) (scans other))
+  sum-stands e = sum-standing α β (scans r) (scans other) e (stands r) (stands other)
+
+  pub sum-accepts : (next : Reel) → first (combination_causes α β (scans r) (scans other)) ≡ none →
+      scans next ≡ combination α β (scans r) (scans other) → Combines α β r other Answers.Accepted next
+  sum-accepts next e is = record {
     replies = sym (sum-replies α β (scans r) (scans other) e);
     leaves = is ∙ sym (sum-leaves α β (scans r) (scans other) e);
-    held = record { filled = filled; standing = rw is (sum-standing α β (scans r) (scans other) e held.standing held-other.standing) };
     refusal_keeps = λ n q. cc q;
   }

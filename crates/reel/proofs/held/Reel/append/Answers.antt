@@ -1,35 +1,49 @@
 -- The first of its causes, or the list with one knot more.
-use mathlib.Core.List.{◌∷◌, [], ◌++◌}
-use mathlib.Core.Option.{none}
-use mathlib.Core.Path.{◌≡◌, refl, sym, ◌∙◌, ap}
-use Prim.Native.Nat.{◌+◌}
-use native.Mathlib.Omega.{arith}
-use lib.ListN.{length-set}
-use Rattle.scans.specs.RefusalTable.{first}
-use Rattle.knot.specs.Machine.{refusal}
-use Rattle.knot.proofs.Lists.{graded_stored}
-use Rattle.calls.specs.Calls.{append, causes}
+use Rattle.std.proofs.Common.{arith, ◌<◌, refl, sym, ◌∙◌, ap, [], ◌∷◌, ◌++◌, length-set}
+use Rattle.std.proofs.Math.Option.{some}
+use Rattle.rounding.specs.Limits.{knots_max}
+use Rattle.calls.specs.Calls.{append}
 use Rattle.reel.specs.Machine.{scans}
-use Rattle.reel.proofs.Scans.{scans_appended}
-use Rattle.reel.proofs.held.Promises.{refuses, accepts}
-use Rattle.reel.proofs.held.Found.{append_finds, append-room}
+use Rattle.reel.proofs.Scans.{length-scans, scans_appended}
+use Rattle.reel.proofs.held.Found.{append-room}
+use Rattle.reel.proofs.held.Promises.{refuses, accepts, changed-stands}
 use Rattle.reel.proofs.held.Reel.append.Goals as goal
+use Rattle.reel.proofs.held.Reel.append.Goals.{In-Ok}
 
-pub returns-in-Refused : goal.returns-in-Refused
-returns-in-Refused c =
-    let f = append_finds c.args.self c.requires _ c.args.position c.args.coefficients.now _ c.before-last.ensures c.append_cause-found.ensures in
-    refuses _ c.args.self c.in-Refused.cause c.refused.result c.requires c.refused.ensures (sym f.verdict ∙ ap refusal c.in-Refused.is)
+pub returns-in-Err : goal.returns-in-Err
+returns-in-Err c =
+    let found = rw c.list.ensures at c.in-Err.ensures in
+    refuses (append c.args.position c.args.coefficients.now) c.args.self c.cause.result c.refused.result c.refused.ensures
+    (sym found.fault ∙ ap some (sym c.cause.ensures))
 
-pub returns : goal.returns
-returns c =
+-- no cause holds, so there is room
+room : (c : In-Ok) → c.args.self.count < knots_max
+room c =
+    let found = rw c.list.ensures at c.in-Ok.ensures in
+    omega (arith, append-room (scans c.args.self) c.args.position c.args.coefficients.now (sym found.fault), length-scans c.args.self)
+
+pub listed : goal.listed
+listed c = omega (arith, room c, c.args.self.room)
+
+pub bounds-self-self : goal.bounds-self-self
+bounds-self-self c = room c
+
+pub invariant_of-self : goal.invariant_of-self
+invariant_of-self c =
     let r = c.args.self in
-    let knot = c.append_cause-found.result.knot in
-    let f = append_finds r c.requires _ c.args.position c.args.coefficients.now _ c.before-last.ensures c.append_cause-found.ensures in
-    let passed : first (causes (append c.args.position c.args.coefficients.now) (scans c.args.self)) ≡ none = sym f.verdict ∙ ap refusal c.in_default.is in
-    let room = append-room r c.requires c.args.position c.args.coefficients.now passed in
-    let new = f.knot passed in
-    accepts _ r _ c.requires passed refl refl refl
-    (scans_appended r c.requires knot room ∙ ap (λ s. scans r ++ s ∷ []) new.is)
-    (length-set r.knots r.count knot ∙ c.requires.filled.room) (omega arith)
-    (graded_stored r.knots r.count (r.count + 1) knot (omega (arith, c.requires.filled.room)) new.graded
-    (λ j h d. c.requires.filled.graded j (omega arith)))
+    let found = rw c.list.ensures at c.in-Ok.ensures in
+    let knot = c.in-Ok.knot in
+    let here = room (goal.at.invariant_of-self c).In-Ok in
+    record {
+      room = length-set r.knots r.count knot ∙ r.room;
+      few = omega (arith, here);
+      standing = rw (scans_appended r knot here, found.knot) (changed-stands (append c.args.position c.args.coefficients.now) r (sym found.fault));
+    }
+
+pub returns-in-Ok : goal.returns-in-Ok
+unfolding scans
+returns-in-Ok c =
+    let r = c.args.self in
+    let found = rw c.list.ensures at c.in-Ok.ensures in
+    accepts (append c.args.position c.args.coefficients.now) r _ (sym found.fault) refl refl refl
+    (scans_appended r c.in-Ok.knot (room (goal.at.returns-in-Ok c).In-Ok) ∙ ap (λ s. scans r ++ s ∷ []) found.knot)

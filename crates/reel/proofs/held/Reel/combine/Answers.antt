@@ -1,35 +1,37 @@
 -- The first of its causes, or the sum of the knots.
-use mathlib.Core.Option.{none}
-use mathlib.Core.Path.{◌≡◌, sym, ◌∙◌, ap}
-use mir.Facts.{to_z-of_z}
-use Rattle.scans.specs.RefusalTable.{first}
-use Rattle.scans.specs.Order.{combination_causes}
-use Rattle.knot.specs.Machine.{refusal}
-use Rattle.combination.specs.Machine.{SumsReels}
+use Rattle.std.proofs.Common.{arith, ◌≡◌, length, w32, to_z-of_z, sym, ◌∙◌, ap}
+use Rattle.std.proofs.Math.Option.{some}
+use Rattle.knot.proofs.Lists as Lists
 use Rattle.reel.specs.Machine.{scans}
-use Rattle.reel.proofs.Scans.{scans_of}
-use Rattle.reel.proofs.held.Promises.{sum-refuses, sum-accepts}
-use Rattle.reel.proofs.held.Reel.combine.Goals.{After-combine-sum}
-use Rattle.std.proofs.Common.{w32}
+use Rattle.reel.proofs.Scans.{stands, length-scans}
+use Rattle.reel.proofs.held.Promises.{sum-refuses, sum-stands, sum-accepts}
 use Rattle.reel.proofs.held.Reel.combine.Goals as goal
 
-pub combine-sum-requires : goal.combine-sum-requires
-unfolding scans
-combine-sum-requires c = (c.requires.0.filled, c.requires.1.filled, c.requires.0.standing)
+pub combine-requires : goal.combine-requires
+combine-requires c = rw c.list.ensures (stands c.args.self)
 
 -- what is found is found of the reels' scans
-sums : (c : After-combine-sum) → SumsReels c.combine-sum.result c.args.self.count c.args.alpha c.args.beta (scans c.args.self) (scans c.args.other)
+pub returns-in-Err : goal.returns-in-Err
+returns-in-Err c =
+    let found = rw (to_z-of_z {w = w32} c.ranges.alpha, to_z-of_z {w = w32} c.ranges.beta, c.list.ensures, c.list-2.ensures) at c.in-Err.ensures in
+    sum-refuses c.args.alpha c.args.beta c.args.self c.args.other c.cause.result c.refused.result c.refused.ensures
+    (sym found.cause ∙ ap some (sym c.cause.ensures))
+
+pub invariant_of-result : goal.invariant_of-result
+invariant_of-result c =
+    let found = rw (to_z-of_z {w = w32} c.ranges.alpha, to_z-of_z {w = w32} c.ranges.beta, c.list.ensures, c.list-2.ensures) at c.in-Ok.ensures in
+    let many : length c.list.result.now ≡ c.args.self.count =
+    omega (arith, Lists.length-scans c.list.result.now, ap length c.list.ensures, length-scans c.args.self) in
+    record {
+      room = found.room;
+      few = c.args.self.few;
+      standing = rw (← many, found.are) (sum-stands c.args.alpha c.args.beta c.args.self c.args.other (sym found.cause));
+    }
+
+pub returns-in-Ok : goal.returns-in-Ok
 unfolding scans
-sums c = rw (to_z-of_z {w = w32} c.ranges.alpha, to_z-of_z {w = w32} c.ranges.beta) at c.combine-sum.ensures
-
-pub returns-in-Refused : goal.returns-in-Refused
-returns-in-Refused c =
-    sum-refuses c.args.alpha c.args.beta c.args.self c.args.other c.requires.0 c.in-Refused.refusal c.refused.result c.refused.ensures
-    (sym (sums (goal.at.returns-in-Refused c).After-combine-sum).verdict ∙ ap refusal c.in-Refused.is)
-
-pub returns : goal.returns
-returns c =
-    let found = sums (goal.at.returns c).After-combine-sum in
-    let quiet : first (combination_causes c.args.alpha c.args.beta (scans c.args.self) (scans c.args.other)) ≡ none =
-    sym found.verdict ∙ ap refusal c.in_default.is in
-    sum-accepts c.args.alpha c.args.beta c.args.self c.args.other c.requires.0 _ c.requires.1 quiet (scans_of _ _ ∙ found.are quiet) (found.filled quiet)
+returns-in-Ok c =
+    let found = rw (to_z-of_z {w = w32} c.ranges.alpha, to_z-of_z {w = w32} c.ranges.beta, c.list.ensures, c.list-2.ensures) at c.in-Ok.ensures in
+    let many : length c.list.result.now ≡ c.args.self.count =
+    omega (arith, Lists.length-scans c.list.result.now, ap length c.list.ensures, length-scans c.args.self) in
+    sum-accepts c.args.alpha c.args.beta c.args.self c.args.other _ (sym found.cause) (rw many at found.are)

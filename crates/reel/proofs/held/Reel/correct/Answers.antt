@@ -1,42 +1,53 @@
--- The first of its causes, or the list with the knot corrected.
-use mathlib.Core.Option.{none}
-use mathlib.Core.Path.{◌≡◌, refl, sym, ◌∙◌, ap}
-use native.Mathlib.Omega.{arith}
-use lib.ListN.{length-set, set}
-use Rattle.scans.specs.RefusalTable.{first}
-use Rattle.knot.specs.Machine.{refusal}
-use Rattle.knot.proofs.Lists.{graded_stored}
-use Rattle.calls.specs.Calls.{correct, causes}
+-- The first of its causes, or the list with other coefficients in place k.
+use Rattle.std.proofs.Common.{arith, ◌<◌, refl, sym, ◌∙◌, ap, length, set, length-set}
+use Rattle.std.proofs.Math.Option.{some}
+use Rattle.calls.specs.Calls.{correct}
+use Rattle.knot.proofs.Lists as Lists
 use Rattle.reel.specs.Machine.{scans}
-use Rattle.reel.proofs.Scans.{scans-corrected}
-use Rattle.reel.proofs.held.Promises.{refuses, accepts}
-use Rattle.reel.proofs.held.Found.{correct-close, correct_finds, correct-there}
+use Rattle.reel.proofs.Scans.{length-scans, scans-corrected, stands}
+use Rattle.reel.proofs.held.Found.{close_beside, correct-there}
+use Rattle.reel.proofs.held.Promises.{refuses, accepts, changed-stands}
 use Rattle.reel.proofs.held.Reel.correct.Goals as goal
+use Rattle.reel.proofs.held.Reel.correct.Goals.{In-Ok}
 
-pub returns-in-Refused : goal.returns-in-Refused
-returns-in-Refused c =
-    let f = correct_finds c.args.self c.requires c.args.k _ _ _ c.args.coefficients.now _ c.inside-at.ensures c.before-left.ensures
-    c.inside-right.ensures c.correct_cause-found.ensures in
-    refuses _ c.args.self c.in-Refused.cause c.refused.result c.requires c.refused.ensures (sym f.verdict ∙ ap refusal c.in-Refused.is)
+pub correct_cause-requires : goal.correct_cause-requires
+correct_cause-requires c = rw c.list.ensures (λ h. close_beside (scans c.args.self) (stands c.args.self) c.args.k
+    (omega (arith, h, Lists.length-scans c.list.result.now, ap length c.list.ensures)))
 
-pub returns : goal.returns
-returns c =
+pub returns-in-Err : goal.returns-in-Err
+returns-in-Err c =
+    let found = rw c.list.ensures at c.in-Err.ensures in
+    refuses (correct c.args.k c.args.coefficients.now) c.args.self c.cause.result c.refused.result c.refused.ensures
+    (sym found.fault ∙ ap some (sym c.cause.ensures))
+
+-- no cause holds, so there is a knot k
+there : (c : In-Ok) → c.args.k < c.args.self.count
+there c =
+    let found = rw c.list.ensures at c.in-Ok.ensures in
+    omega (arith, correct-there (scans c.args.self) c.args.k c.args.coefficients.now (sym found.fault), length-scans c.args.self)
+
+pub listed : goal.listed
+listed c = omega (arith, there c, c.args.self.room, c.args.self.few)
+
+pub bounds-self-k : goal.bounds-self-k
+bounds-self-k c = omega (arith, there c, c.args.self.few)
+
+pub invariant_of-self : goal.invariant_of-self
+invariant_of-self c =
     let r = c.args.self in
-    let k = c.args.k in
-    let knot = c.correct_cause-found.result.knot in
-    let f = correct_finds r c.requires k _ _ _ c.args.coefficients.now _ c.inside-at.ensures c.before-left.ensures
-    c.inside-right.ensures c.correct_cause-found.ensures in
-    let passed : first (causes (correct c.args.k c.args.coefficients.now) (scans c.args.self)) ≡ none = sym f.verdict ∙ ap refusal c.in_default.is in
-    let there = correct-there r c.requires k c.args.coefficients.now passed in
-    let here : c.inside-at.result ≡ c.args.k = omega (arith, c.inside-at.ensures, there, c.requires.filled.count) in
-    let new = f.knot passed in
-    rw here
-    (accepts _ r _ c.requires passed refl refl refl
-    (scans-corrected r c.requires k knot there ∙ ap (λ s. set (scans r) k s) new.is)
-    (length-set r.knots k knot ∙ c.requires.filled.room) c.requires.filled.count
-    (graded_stored r.knots k r.count knot (omega (arith, there, c.requires.filled.room, c.requires.filled.count))
-    new.graded (λ j h d. c.requires.filled.graded j h)))
+    let found = rw c.list.ensures at c.in-Ok.ensures in
+    let knot = c.in-Ok.knot in
+    record {
+      room = length-set r.knots c.args.k knot ∙ r.room;
+      few = r.few;
+      standing = rw (scans-corrected r c.args.k knot (there (goal.at.invariant_of-self c).In-Ok), found.knot)
+          (changed-stands (correct c.args.k c.args.coefficients.now) r (sym found.fault));
+    }
 
-pub correct_cause-found-requires : goal.correct_cause-found-requires
-correct_cause-found-requires c =
-    correct-close c.args.self c.requires c.args.k _ _ _ c.inside-at.ensures c.before-left.ensures c.inside-right.ensures
+pub returns-in-Ok : goal.returns-in-Ok
+unfolding scans
+returns-in-Ok c =
+    let r = c.args.self in
+    let found = rw c.list.ensures at c.in-Ok.ensures in
+    accepts (correct c.args.k c.args.coefficients.now) r _ (sym found.fault) refl refl refl
+    (scans-corrected r c.args.k c.in-Ok.knot (there (goal.at.returns-in-Ok c).In-Ok) ∙ ap (set (scans r) c.args.k) found.knot)

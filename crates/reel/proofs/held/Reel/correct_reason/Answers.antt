@@ -1,14 +1,17 @@
--- The reason of the first cause is found of the knots beside knot k.
+-- The reason of the first cause is found of the knots and the corrected one.
+use Rattle.std.proofs.Common.{arith, ◌∙◌, ap, length}
 use Rattle.calls.specs.Reason.{reason_for}
-use Rattle.reel.proofs.held.Found.{correct-close, correct_finds}
+use Rattle.knot.proofs.Lists.{length-scans}
+use Rattle.reel.specs.Machine.{scans}
+use Rattle.reel.proofs.Scans.{stands}
+use Rattle.reel.proofs.held.Found.{close_beside}
 use Rattle.reel.proofs.held.Reel.correct_reason.Goals as goal
 
-pub correct_cause-found-requires : goal.correct_cause-found-requires
-correct_cause-found-requires c =
-    correct-close c.args.self c.requires c.args.k _ _ _ c.inside-at.ensures c.before-left.ensures c.inside-right.ensures
+pub correct_cause-requires : goal.correct_cause-requires
+correct_cause-requires c =
+    rw c.list.ensures (λ h. close_beside (scans c.args.self) (stands c.args.self) c.args.k
+    (omega (arith, h, length-scans c.list.result.now, ap length c.list.ensures)))
 
 pub returns : goal.returns
 unfolding reason_for
-returns c =
-    (correct_finds c.args.self c.requires c.args.k _ _ _ c.args.coefficients.now _ c.inside-at.ensures c.before-left.ensures
-    c.inside-right.ensures c.correct_cause-found.ensures).reason
+returns c = c.reason.ensures ∙ (rw c.list.ensures at c.correct_cause.ensures).reason

@@ -1,43 +1,31 @@
 -- The number of the first fault of the block, or its list.
-use mathlib.Core.Option.{none, some}
-use mathlib.Core.Path.{◌≡◌, refl, ◌∙◌, ap, sym}
-use native.Mathlib.Omega.{arith}
-use Rattle.scans.specs.RefusalTable.{first}
-use Rattle.knot.proofs.Numbers.{passed, failed}
+use Rattle.std.proofs.Common.{refl, sym, ◌∙◌, ap}
+use Rattle.std.proofs.Math.Option.{some}
 use Rattle.block.specs.Block.{block}
-use Rattle.block.specs.Reading.{block_causes, list_of}
 use Rattle.calls.specs.Calls.{read}
 use Rattle.reel.specs.Machine.{scans}
-use Rattle.reel.proofs.Scans.{scans_of}
-use Rattle.reel.proofs.held.Promises.{refuses, accepts}
-use Rattle.reel.proofs.held.Reel.read.Goals.{After-read-contents}
+use Rattle.reel.proofs.held.Promises.{refuses, accepts, changed-stands}
 use Rattle.reel.proofs.held.Reel.read.Goals as goal
 
-pub returns-then-refusal-ne0-clause-does : goal.returns-then-refusal-ne0-clause-does
-returns-then-refusal-ne0-clause-does c =
-    let n = c.read-contents in
-    refuses (read c.args.bytes.now) c.args.self c.numbered.result c.refused.result c.requires c.refused.ensures
-    (failed n.result.refusal n.ensures.reads.number c.if-refusal-ne0.true ∙ ap some (sym c.numbered.ensures))
+pub returns-in-Err-clause-does : goal.returns-in-Err-clause-does
+returns-in-Err-clause-does c =
+    refuses (read c.args.bytes.now) c.args.self c.cause.result c.refused.result c.refused.ensures
+    (sym c.in-Err.ensures.reads.found ∙ ap some (sym c.cause.ensures))
 
--- the list that the reader found is the block's
-module _ (c : After-read-contents) (no : c.read-contents.result.refusal ≡ 0) where
-  quiet : first (block_causes c.args.bytes.now) ≡ none
-  quiet = passed c.read-contents.ensures.reads.number no
+-- what stands then is the list that the reader found
+pub invariant_of-result-clause-standing : goal.invariant_of-result-clause-standing
+invariant_of-result-clause-standing c =
+    let found = c.in-Ok.ensures.reads in
+    rw found.knots (changed-stands (read c.args.bytes.now) c.args.self (sym found.found))
 
-  list : scans (record { knots = c.read-contents.result.knots; count = c.read-contents.result.count }) ≡ list_of c.args.bytes.now
-  list = scans_of c.read-contents.result.knots c.read-contents.result.count ∙ c.read-contents.ensures.reads.scans quiet
+pub returns-in-Ok-clause-does : goal.returns-in-Ok-clause-does
+unfolding scans
+returns-in-Ok-clause-does c =
+    let found = c.in-Ok.ensures.reads in
+    accepts (read c.args.bytes.now) c.args.self _ (sym found.found) refl refl refl found.knots
 
-pub returns-clause-does : goal.returns-clause-does
-returns-clause-does c =
-    let e = (goal.at.returns-clause-does c).After-read-contents in
-    let n = c.read-contents.ensures.reads in
-    let no : c.read-contents.result.refusal ≡ 0 = omega arith in
-    let none_found = quiet e no in
-    accepts (read c.args.bytes.now) c.args.self _ c.requires none_found refl refl refl (list e no)
-    n.room n.count (n.graded none_found)
-
-pub returns-clause-again : goal.returns-clause-again
-returns-clause-again c =
-    let e = (goal.at.returns-clause-again c).After-read-contents in
-    let no : c.read-contents.result.refusal ≡ 0 = omega arith in
-    λ ok plain. ap block (list e no) ∙ c.read-contents.ensures.block_value (quiet e no) plain
+pub returns-in-Ok-clause-again : goal.returns-in-Ok-clause-again
+unfolding scans
+returns-in-Ok-clause-again c =
+    let found = c.in-Ok.ensures in
+    λ ok plain. ap block found.reads.knots ∙ found.block_value (sym found.reads.found) plain

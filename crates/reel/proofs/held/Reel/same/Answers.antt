@@ -1,7 +1,5 @@
 -- Knots agree where their scans do.
-use Rattle.reel.specs.Machine.{scans}
 use Rattle.reel.proofs.held.Reel.same.Goals as goal
 
 pub returns : goal.returns
-unfolding scans
-returns c = c.same.ensures
+returns c = rw (c.list.ensures, c.list-2.ensures) at c.same.ensures
