@@ -1,30 +1,23 @@
 -- What the functions of the report find and write.
-use Rattle.std.specs.Prelude.{List, [], ◌∷◌, ◌≡◌, ℕ, suc, ◌*◌, ◌-◌, ◌≤◌, length, take}
-use Rattle.std.proofs.Math.Option.{Option, none, some}
+use Rattle.std.specs.Prelude.{List, ◌≡◌, ℕ, suc, ◌*◌, ◌-◌, ◌≤◌, length, take, Result, IfOk}
 use Rattle.rounding.specs.Limits.{knots_max}
 use Rattle.scans.specs.Scan.{Scan, at}
-use Rattle.scans.specs.RefusalTable.{first, too_few}
+use Rattle.scans.specs.RefusalTable.{first}
 use Rattle.knot.specs.Machine.{refusal}
+use Rattle.knot.specs.declared.table.Refusal.{Refusal}
 use Rattle.block.specs.Reading.{list_of}
 use Rattle.scans.specs.Pieces.{mark}
-use Rattle.calls.specs.Calls.{Reply, accepted, number, refused, value, trend, total, reply_to}
-use Rattle.reel.specs.Machine.{scans, Held, reply_of}
+use Rattle.calls.specs.Calls.{value, trend, total, reply_to}
+use Rattle.reel.specs.Machine.{reply_of, scans}
+use Rattle.reel.specs.declared.held.Reel.{Reel}
 use Rattle.report_lines.specs.Report.{piece_text, report_causes, report_of}
-use Rattle.report_lines.specs.declared.opened.Opened.{Opened}
 use Rattle.report_lines.specs.declared.row.Row.{Row}
 use Rattle.report_lines.specs.declared.room.Report.{Report}
 
--- what read's reply refuses, and then 8, with so many knots
-abbrev pub refusal_in : Reply → ℕ → Option ℕ
-refusal_in accepted count = first (too_few count ∷ [])
-refusal_in (number z) count = first (too_few count ∷ [])
-refusal_in (refused n) count = some n
-
 -- what is found of a block: the first of the report's causes; and where none holds, a reel with the block's list
-pub record Opens (r : Opened) (bytes : List ℕ) : Type 0 where
-  pub verdict : refusal r.verdict ≡ first (report_causes bytes)
-  pub held : Held r.reel
-  pub list : first (report_causes bytes) ≡ none → scans r.reel ≡ list_of bytes
+pub record Opens (r : Result Reel Refusal) (bytes : List ℕ) : Type 0 where
+  pub verdict : refusal r ≡ first (report_causes bytes)
+  pub list : IfOk r (λ reel. scans reel ≡ list_of bytes)
 
 -- what is asked of piece k
 pub record Asks (row : Row) (scans : List Scan) (k : ℕ) : Type 0 where

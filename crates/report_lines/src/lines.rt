@@ -3,31 +3,27 @@ ghost use Rattle.std.proofs.Math.Option.{none};
 ghost use Rattle.std.specs.Prelude.{◌+◌, ◌≤◌, length};
 ghost use Rattle.text.specs.Text.{Put};
 ghost use Rattle.knot.specs.Machine.{number};
-ghost use Rattle.reel.specs.Machine.{Held, reply_of, scans};
+ghost use Rattle.reel.specs.Machine.{reply_of, scans};
 ghost use Rattle.report_lines.specs.Report.{pieces_in, piece_lines, refused_line, reported, report_of, reel_text};
 ghost use Rattle.report_lines.specs.Machine.{Reports, lines_max, room_max};
 
 use crate::fields::{put_answer, put_number, put_row};
 use crate::opened::open_block;
-use crate::room::{Report, report_room};
+use crate::room::Report;
 use crate::row::ask;
-use knot::{Refusal, Verdict};
+use knot::Refusal;
 use reel::{Answer, Reel};
 use text::put_bytes;
 
 // A line for each piece, of which there are at most 128.
 fn put_pieces(reel: Reel, out: &mut [u8]) -> usize
-    requires { (Held reel) × (lines_max ≤ length out.old) }
+    requires { lines_max ≤ length out.old }
     ensures put { Put out.old 0 (piece_lines (scans reel) (pieces_in (scans reel))) result out.new }
     ensures upper_bound { result ≤ lines_max }
 {
-    let count = reel.count();
     let mut at = 0;
-    let mut k = 0;
-    while k + 1 < count {
-        let row = ask(reel, k);
-        at = put_row(out, at, row);
-        k += 1;
+    for k in 0..reel.count().saturating_sub(1) {
+        at = put_row(out, at, ask(reel, k));
     }
     at
 }
@@ -45,15 +41,13 @@ fn put_reel_line(out: &mut [u8], at: usize, pieces: u32, total: Answer) -> usize
 
 // All lines of a reel of two knots or more.
 fn put_reel(reel: Reel, out: &mut [u8]) -> usize
-    requires { (Held reel) × (2 ≤ length (scans reel)) × (room_max ≤ length out.old) }
+    requires { (2 ≤ length (scans reel)) × (room_max ≤ length out.old) }
     ensures put { Put out.old 0 (reported none (scans reel)) result out.new }
     ensures upper_bound { result ≤ room_max }
 {
     let at = put_pieces(reel, out);
     let pieces = reel.count() - 1;
-    let totalled = reel.total(0, pieces);
-    let total = totalled.answer;
-    put_reel_line(out, at, pieces, total)
+    put_reel_line(out, at, pieces, reel.total(0, pieces).answer)
 }
 
 // The one line of a refusal.
@@ -72,20 +66,17 @@ fn put_report(bytes: &[u8], out: &mut [u8]) -> usize
     ensures put { Put out.old 0 (report_of bytes.now) result out.new }
     ensures upper_bound { result ≤ room_max }
 {
-    let opened = open_block(bytes);
-    let verdict = opened.verdict;
-    if let Verdict::Refused(cause) = verdict {
-        return put_refused(out, cause);
+    match open_block(bytes) {
+        Err(cause) => put_refused(out, cause),
+        Ok(reel) => put_reel(reel, out),
     }
-    let reel = opened.reel;
-    put_reel(reel, out)
 }
 
 // The report of these bytes, which are taken as a block.
 pub fn report(bytes: &[u8]) -> Report
     ensures { Reports result bytes.now }
 {
-    let mut text = report_room();
+    let mut text = Report::room();
     let length = put_report(bytes, &mut text);
     Report { text, length }
 }

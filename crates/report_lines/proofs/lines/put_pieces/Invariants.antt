@@ -12,6 +12,3 @@ invariant-loop-k l = record {
   within : l.at ≤ 126 * l.k;
   room : length l.out ≡ length l.fn.out;
 }
-
-abbrev pub decreases-loop-k : goal.decreases-loop-k
-decreases-loop-k l = l.count - l.k

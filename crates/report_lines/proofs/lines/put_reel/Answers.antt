@@ -7,4 +7,4 @@ use Rattle.report_lines.proofs.lines.put_reel.Goals as goal
 pub returns-clause-put : goal.returns-clause-put
 returns-clause-put c =
     put-put c.put_pieces-at.ensures.put
-    (rw (reel_is (scans c.args.reel) _ c.total-totalled.ensures.replies, c.count-pieces.ensures) at c.put_reel_line.ensures.put)
+    (rw (reel_is (scans c.args.reel) _ c.total.ensures.replies, c.count-pieces.ensures) at c.put_reel_line.ensures.put)
