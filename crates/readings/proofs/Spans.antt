@@ -9,6 +9,7 @@ use lib.ListN.{length, take, drop, get_or, length-map}
 use lib.Seq.{drop-cons, drop-drop}
 use Rattle.rounding.specs.Limits.{knots_max, grade_max}
 use Rattle.scans.specs.Scan.{Scan}
+use Rattle.scans.specs.RefusalTable.{first}
 use Rattle.scans.proofs.Causes.{Quiet, silent}
 use Rattle.block.specs.Fields.{knot_count, edition, grade, reading}
 use Rattle.block.specs.Bytes.{words}
@@ -18,9 +19,8 @@ use Rattle.block.proofs.Reading.{Taken, taken, Accepted}
 use Rattle.block.proofs.RoundTrips.{knots-count}
 use Rattle.block.proofs.View.{readings-first, knot-there}
 use Rattle.block.proofs.Written.{knot_words_max}
-use Rattle.word_faults.specs.Machine.{Counts}
-use Rattle.word_faults.specs.declared.readings.Counted.{Counted}
-use Rattle.readings.specs.Machine.{Spans}
+use Rattle.readings.specs.Machine.{Spans, Stands, words_behind}
+use Rattle.readings.specs.declared.finding.Span.{Span}
 
 -- j knots are passed, in a block of n knots, and the word of the next, knot j, is i: no fault is ahead, and the readings looked for are those from here
 pub record Come (e : ℕ) (ws : List ℕ) (n k j i : ℕ) : Type 0 where
@@ -30,7 +30,7 @@ pub record Come (e : ℕ) (ws : List ℕ) (n k j i : ℕ) : Type 0 where
   pub quiet : Quiet (knots_causes e (length ws - 1) j (n - j) last (drop i ws))
   pub readings : get_or (readings_from e n (drop 1 ws)) k [] ≡ get_or (readings_from e (n - j) (drop i ws)) (k - j) []
 
-module _ (e : ℕ) (ws : List ℕ) (n k j i : ℕ) (come : Come e ws n k j i) (h : k < n) (most : n ≤ knots_max) (m : ℕ) (m_is : m ≡ grade (get_or ws i 0)) where
+module _ {e : ℕ} {ws : List ℕ} {n k j i : ℕ} (come : Come e ws n k j i) (h : k < n) where
   -- the word of the knot, the knots after it, and the words after its coefficients
   abbrev w : ℕ
   w = get_or ws i 0
@@ -39,7 +39,7 @@ module _ (e : ℕ) (ws : List ℕ) (n k j i : ℕ) (come : Come e ws n k j i) (h
   more = n - (j + 1)
 
   abbrev rest : List ℕ
-  rest = drop (i + m + 2) ws
+  rest = drop (i + grade w + 2) ws
 
   one_left : n - j ≡ suc more
   one_left = omega (arith, come.within)
@@ -55,36 +55,38 @@ module _ (e : ℕ) (ws : List ℕ) (n k j i : ℕ) (come : Come e ws n k j i) (h
       (subst (λ l. Quiet (knots_causes e (length ws - 1) j (suc more) come.last l)) here ahead)
 
   behind-it : behind w (drop (suc i) ws) ≡ rest
-  behind-it = let there : suc i + (grade w + 1) ≡ i + m + 2 = omega arith in drop-drop (grade w + 1) (suc i) ws ∙ ap (λ a. drop a ws) there
+  behind-it =
+      let there : suc i + (grade w + 1) ≡ i + grade w + 2 = omega arith in drop-drop (grade w + 1) (suc i) ws ∙ ap (λ a. drop a ws) there
 
   readings-here : readings_from e (n - j) (drop i ws) ≡ map reading (reading_words e rest) ∷ readings_from e more (after_readings e rest)
   readings-here =
       ap₂ (λ m l. readings_from e m l) one_left here ∙
       ap (λ l. map reading (reading_words e l) ∷ readings_from e more (after_readings e l)) behind-it
 
-  low : m ≤ grade_max
-  low = omega (arith, m_is, mod-lt (w / 2 ^ 16) {m = 2 ^ 3} (omega arith))
+  low : grade w ≤ grade_max
+  low = omega (arith, mod-lt (w / 2 ^ 16) {m = 2 ^ 3} (omega arith))
 
-  pub near : i + m + 2 ≤ knot_words_max * knots_max
-  near = omega (arith, come.place, come.within, low)
+  -- its readings have no fault, and stand near
+  pub without_fault : first (reading_causes 0 (words_behind e ws i)) ≡ none
+  without_fault = silent (reading_causes 0 (reading_words e rest))
+      (subst (λ l. Quiet (reading_causes 0 (reading_words e l))) behind-it knot.readings)
 
-  -- so many readings are counted behind it
-  module _ (r : Counted) (counts : Counts r (reading_words e rest)) where
-    counted : r.count ≡ length (reading_words e rest)
-    counted = counts.count (silent (reading_causes 0 (reading_words e rest))
-        (subst (λ l. Quiet (reading_causes 0 (reading_words e l))) behind-it knot.readings))
+  pub near : n ≤ knots_max → i ≤ knot_words_max * knots_max
+  near most = omega (arith, come.place, come.within)
 
-    past-it : after_readings e rest ≡ drop (i + m + 2 + r.count) ws
-    past-it = ap (λ a. drop a rest) (sym counted) ∙ drop-drop r.count (i + m + 2) ws
+  module _ {p : Span} (stands : Stands p e ws i) where
+    past-it : after_readings e rest ≡ drop (p.start + p.count) ws
+    past-it =
+        ap (λ a. drop a rest) (sym stands.count) ∙ drop-drop p.count (i + grade w + 2) ws ∙ ap (λ a. drop (a + p.count) ws) (sym stands.start)
 
     -- it is not the one looked for
-    pub pass : (j ≡ k → ⊥) → Come e ws n k (j + 1) (i + m + 2 + r.count)
+    pub pass : j < k → Come e ws n k (j + 1) (p.start + p.count)
     pass d =
-        let later : k - j ≡ suc (k - (j + 1)) = omega (arith, come.within) in
+        let later : k - j ≡ suc (k - (j + 1)) = omega arith in
         let next : suc j ≡ j + 1 = omega arith in
         record {
-          within = omega (arith, come.within);
-          place = omega (arith, come.place, low, counts.few);
+          within = omega arith;
+          place = omega (arith, come.place, low, stands.start, stands.few);
           last = some (scan_from w (drop (suc i) ws));
           quiet = subst₂ (λ a l. Quiet (knots_causes e (length ws - 1) a more (some (scan_from w (drop (suc i) ws))) l)) next
               (ap (after_readings e) behind-it ∙ past-it) knot.later;
@@ -92,16 +94,15 @@ module _ (e : ℕ) (ws : List ℕ) (n k j i : ℕ) (come : Come e ws n k j i) (h
         }
 
     -- it is
-    pub found : j ≡ k → Spans (record { start = i + m + 2; count = r.count }) ws (get_or (readings_from e n (drop 1 ws)) k [])
+    pub found : j ≡ k → Spans p ws (get_or (readings_from e n (drop 1 ws)) k [])
     found d =
         let first_one : k - j ≡ 0 = omega arith in
         let these : get_or (readings_from e n (drop 1 ws)) k [] ≡ map reading (reading_words e rest) =
         come.readings ∙ ap₂ (λ l a. get_or l a []) readings-here first_one in
         record {
-          near = omega (arith, near);
-          few = counts.few;
-          are = ap (map reading) (ap (λ a. take a rest) counted ∙ readings-first e rest) ∙ sym these;
-          count = ap length these ∙ length-map (reading_words e rest) reading ∙ sym counted;
+          few = stands.few;
+          are = ap₂ (λ c a. map reading (take c (drop a ws))) stands.count stands.start ∙ ap (map reading) (readings-first e rest) ∙ sym these;
+          count = ap length these ∙ length-map (reading_words e rest) reading ∙ sym stands.count;
         }
 
 -- the block is accepted, and has a knot k

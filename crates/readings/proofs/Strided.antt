@@ -2,9 +2,11 @@
 use mathlib.Core.List.{List, [], ◌∷◌, map}
 use mathlib.Core.Option.{Option, none, some, some-ne-none}
 use mathlib.Core.Path.{◌≡◌, refl, sym, ◌∙◌, ap, ap₂}
-use Prim.Native.Nat.{ℕ, zero, suc, ◌+◌, ◌-◌, ◌*◌, ◌/◌, ◌≤◌, ◌<◌}
+use Prim.Native.Nat.{ℕ, zero, suc, ◌+◌, ◌*◌, ◌≤◌, ◌<◌}
 use native.Mathlib.Decide.{dec_lt}
-use native.Mathlib.Nat.{mul-le-mul_right, div-mul-le_self, lt-div-mul-add}
+use native.Mathlib.Nat.{mul-le-mul_right}
+use Rattle.std.specs.Int.{div_ceil}
+use Rattle.std.proofs.lemmas.Grind.{div_ceil_times}
 use native.Mathlib.Omega.{arith}
 use lib.ListN.{length, take, drop, get_or, get_elem?}
 use lib.Seq.{length-take-le, get_or-take, get_or-drop}
@@ -59,11 +61,11 @@ same-list (x ∷ l) (y ∷ m) h = ap₂ (λ a rest. a ∷ rest) (some_same (h 0)
 
 -- of `count` readings every n-th, rounded up
 pub strided_every : (ws : List ℕ) (start n count : ℕ) → 0 < n → count ≤ length (drop start ws) →
-    strided ws start n ((count + (n - 1)) / n) ≡ every_nth n (map reading (take count (drop start ws)))
-strided_every ws start n count h there = same-list _ _ (λ i. go i (dec_lt i ((count + (n - 1)) / n)))
+    strided ws start n (div_ceil count n) ≡ every_nth n (map reading (take count (drop start ws)))
+strided_every ws start n count h there = same-list _ _ (λ i. go i (dec_lt i most))
   where
     most : ℕ
-    most = (count + (n - 1)) / n
+    most = div_ceil count n
 
     these : List ℕ
     these = take count (drop start ws)
@@ -73,12 +75,12 @@ strided_every ws start n count h there = same-list _ _ (λ i. go i (dec_lt i ((c
 
     go : (i : ℕ) → Dec (i < most) → get_elem? (strided ws start n most) i ≡ get_elem? (every_nth n (map reading these)) i
     go i (yes l) =
-        let inside : i * n < count = omega (arith, mul-le-mul_right n l, div-mul-le_self (count + (n - 1)) n) in
+        let inside : i * n < count = omega (arith, mul-le-mul_right n l, (div_ceil_times count n h).1) in
         strided_at ws start n most i l ∙
         sym (every_nth_lem n (map reading these) i h ∙ read_at these (i * n) (omega (arith, long)) ∙
         ap (λ w. some (reading w)) (get_or-take count (drop start ws) (i * n) 0 inside ∙ get_or-drop start ws (i * n) 0))
     go i (no l) =
-        let over : count ≤ i * n = omega (arith, mul-le-mul_right n (at_least i l), lt-div-mul-add {a = count + (n - 1)} h) in
+        let over : count ≤ i * n = omega (arith, mul-le-mul_right n (at_least i l), (div_ceil_times count n h).0) in
         strided-past ws start n most i (at_least i l) ∙ sym (every_nth_lem n (map reading these) i h ∙ read_past these (i * n) (omega (arith, long)))
       where
         at_least : (i : ℕ) → (i < most → ⊥) → most ≤ i

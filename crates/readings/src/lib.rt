@@ -4,5 +4,4 @@
 mod finding;
 mod view;
 
-pub use finding::Shown;
 pub use view::{Seen, View, look};

@@ -1,4 +1,4 @@
--- `readings::finding::shown_at` meets its contract.
+-- None past the last; before it the reading at its word.
 use Rattle.std.proofs.Common.{sym, ◌∙◌, ap}
 use Rattle.std.proofs.Math.Option.{some}
 use Rattle.block.specs.Bytes.{words}

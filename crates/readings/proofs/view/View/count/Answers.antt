@@ -1,4 +1,4 @@
--- `readings::view::View::count` meets its contract.
+-- How many a view shows: the length of what it shows.
 use Rattle.std.proofs.Common.{sym}
 use Rattle.block.specs.Bytes.{words}
 use Rattle.readings.proofs.Strided.{strided-length}
