@@ -22,7 +22,7 @@ fn read_knots(block: &[u8], edition: u32, count: usize) -> Result<Contents, Faul
 {
     let mut knots = [Knot::FREE; KNOTS_MAX];
     let mut i = 1;
-    // The block has the label and not the loop, since a `for` is left with no value.
+    // Document 01's form, left by a label. The block has it and not the loop, since a `for` is left with no value.
     'words: {
         for k in 0..count {
             let last = knots[..k].last();

@@ -67,6 +67,7 @@ pub fn select(block: &[u8], k: u32, n: u32) -> Result<Span, Refusal>
 }
 
 // The i-th of those that stand from word `start` on at every `stride`-th word, `count` of them; none past the last.
+// The parts of a view stay apart here: document 01's form is thin functions of a struct after a slice function.
 pub fn shown_at(block: &[u8], start: u32, count: u32, stride: u32, i: u32) -> Option<u16>
     ensures { reading_shown result ≡ get_elem? (strided (words block.now) start stride count) i }
 {

@@ -1,4 +1,4 @@
-// The faults of a block: of its length and of each word at its place.
+// The faults of a block: of its length and of each word at its place. A match on the kind number is document 01's form.
 ghost use Rattle.std.specs.Prelude.{[], ◌∷◌, ◌-◌, drop, length, ◌≡◌};
 ghost use Rattle.scans.specs.RefusalTable.{first};
 ghost use Rattle.knot.specs.Machine.{refusal};

@@ -18,6 +18,7 @@ pub fn count_readings(block: &[u8], edition: u32, from: usize) -> Result<usize, 
         return Ok(0);
     }
     let mut count = 0;
+    // No `for`: no bound is known before, and each way out is a return.
     loop {
         let word = load(block, from + count);
         if !is_reading(word) {
