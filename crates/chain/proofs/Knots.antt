@@ -27,8 +27,8 @@ module _ (knots : List Knot) (k : ℕ) (knot : Knot) (read : knot ≡ get_or kno
 
 -- two that were read one after the other, and what the functions of a piece are given of them
 module _ (knots : List Knot) (k : ℕ) (left right : Knot) (read : left ≡ get_or knots k left) (read_next : right ≡ get_or knots (k + 1) right)
-    (inside : suc k < length (scans knots)) (h : ℕ) (p q : List ℤ) (gap : h ≡ right.position - left.position) (of_left : p ≡ (scan left).coefficients)
-    (of_right : q ≡ (scan right).coefficients) where
+    (inside : suc k < length (scans knots)) (h : ℕ) (p q : List ℤ) (gap : h ≡ right.position - left.position)
+    (of_left : p ≡ (scan left).coefficients) (of_right : q ≡ (scan right).coefficients) where
   pub piece_is : piece h p q ≡ piece_of (scans knots) k
   piece_is =
       let first = scan_at knots k left read (omega (arith, length-scans knots)) in

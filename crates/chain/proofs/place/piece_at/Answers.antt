@@ -1,5 +1,6 @@
 -- The inner knots rise, so those that are not after x come first; and behind them starts the first piece that ends after x.
-use Rattle.std.proofs.Common.{◌≡◌, ℕ, suc, zero, ◌+◌, ◌-◌, ◌*◌, ◌≤◌, ◌<◌, List, [], ◌∷◌, length, get_or, take, drop, arith, rules, leb, true, false, ap, refl, ◌∙◌, add-one}
+use Rattle.std.proofs.Common.{◌≡◌, ℕ, suc, zero, ◌+◌, ◌-◌, ◌*◌, ◌≤◌, ◌<◌, List, [], ◌∷◌, length, get_or, take, drop}
+use Rattle.std.proofs.Common.{arith, rules, leb, true, false, ap, refl, ◌∙◌, add-one}
 use Rattle.std.specs.List.Sorted.{IsNonDecreasingBy, IsPartitionPoint}
 use Rattle.std.proofs.lemmas.Bool.{leb-true, leb-false}
 use Rattle.std.proofs.lemmas.Grind.{get_or_after_one}
@@ -52,8 +53,13 @@ module _ (knots : List Knot) (x : ℕ) (reached : Reached knots x) where
     ends h = omega (arith, inner_count, length-scans knots, reached.within.two)
 
     lies : Dec (i < length (inner knots)) → Lies (scans knots) (is_last (scans knots)) x (place_in (scans knots) x i)
-    lies (yes h) = lies_in (scans knots) reached.chained x i (omega (arith, inner_count, length-scans knots)) (starts i refl) (omega (arith, after h)) (λ g. absurd (omega (arith, after h)))
-    lies (no h) = lies_in (scans knots) reached.chained x i (omega (arith, ends h, reached.within.two)) (starts i refl) (rw (ends h) reached.within.last) (λ g. omega (arith, ends h, reached.within.two))
+    lies (yes h) =
+        let later = after h in
+        lies_in (scans knots) reached.chained x i (omega (arith, inner_count, length-scans knots)) (starts i refl) (omega arith) (λ g. absurd (omega arith))
+    lies (no h) =
+        let last = ends h in
+        let two = reached.within.two in
+        lies_in (scans knots) reached.chained x i (omega arith) (starts i refl) (rw last reached.within.last) (λ g. omega arith)
 
     assigned : i ≡ piece_at (scans knots) x
     assigned =

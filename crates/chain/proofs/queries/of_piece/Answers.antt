@@ -14,10 +14,11 @@ f-requires g c =
     let left = c.index-knots-k in
     let right = c.index-knots-k-2 in
     let inside = c.requires.lies.piece in
-    let same = piece_is knots k left.result right.result left.is right.is inside c.gap.result c.list.result.now c.list-2.result.now c.gap.ensures c.list.ensures c.list-2.ensures in
-    let fits = admitted knots k left.result right.result left.is right.is inside c.gap.result c.list.result.now c.list-2.result.now c.gap.ensures c.list.ensures c.list-2.ensures c.requires.chained in
+    let same = piece_is knots k _ _ left.is right.is inside _ _ _ c.gap.ensures c.list.ensures c.list-2.ensures in
+    let fits =
+    admitted knots k _ _ left.is right.is inside _ _ _ c.gap.ensures c.list.ensures c.list-2.ensures c.requires.chained in
     c.requires.callable c.gap.result c.list.result c.list-2.result _
-    (fits, omega (arith, c.requires.lies.ends, ap (λ P. P.h) same, mark_at knots k left.result left.is (omega (arith, length-scans knots))))
+    (fits, omega (arith, c.requires.lies.ends, ap (λ P. P.h) same, mark_at knots k _ left.is (omega (arith, length-scans knots))))
 
 pub returns : goal.returns
 returns g c of gives =
@@ -26,7 +27,8 @@ returns g c of gives =
     let left = c.index-knots-k in
     let right = c.index-knots-k-2 in
     let inside = c.requires.lies.piece in
-    let same = piece_is knots k left.result right.result left.is right.is inside c.gap.result c.list.result.now c.list-2.result.now c.gap.ensures c.list.ensures c.list-2.ensures in
+    let same = piece_is knots k _ _ left.is right.is inside _ _ _ c.gap.ensures c.list.ensures c.list-2.ensures in
     let distance : c.from.result - 256 * c.from-2.result ≡ c.args.x - mark (scans knots) k =
-    omega (arith, mark_at knots k left.result left.is (omega (arith, length-scans knots))) in
-    result_is c.f.result c.f.type_inv ∙ gives c.gap.result c.list.result c.list-2.result _ c.f.result c.f.ensures ∙ ap₂ of same distance
+    omega (arith, mark_at knots k _ left.is (omega (arith, length-scans knots))) in
+    result_is c.f.result c.f.type_inv ∙ gives c.gap.result c.list.result c.list-2.result _ c.f.result c.f.ensures ∙
+    ap₂ of same distance

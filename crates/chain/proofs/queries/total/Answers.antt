@@ -1,5 +1,6 @@
 -- The pair of a turn is that of the next piece, and the totals of all of them fit.
-use Rattle.std.proofs.Common.{◌≡◌, ℕ, ℤ, suc, pos, ◌+◌, ◌-◌, ◌^◌, ◌≤◌, ◌<◌, ◌+ℤ◌, List, length, get_or, take, drop, arith, rules, to_z, of_z, w64, ap, ap₂, sym, ◌∙◌}
+use Rattle.std.proofs.Common.{◌≡◌, ℕ, ℤ, suc, pos, ◌+◌, ◌-◌, ◌^◌, ◌≤◌, ◌<◌, ◌+ℤ◌, List}
+use Rattle.std.proofs.Common.{length, get_or, take, drop, arith, rules, to_z, of_z, w64, ap, ap₂, sym, ◌∙◌}
 use Rattle.std.proofs.lemmas.Iterator.{window_more}
 use Rattle.std.proofs.lemmas.List.{get_or-take, get_or-drop, length-take-le, length-drop}
 use Rattle.std.specs.Slice.Iter.{windows_rest}
@@ -82,25 +83,31 @@ module _ (knots : List Knot) (i j : ℕ) (order : i ≤ j) (last : j < length kn
   none_yet : (rest : ℕ) → rest ≡ length (between knots i j) → pos 0 ≡ total_over (scans knots) i (i + (length (between knots i j) - rest))
   none_yet rest e = let none : i + (length (between knots i j) - rest) ≡ i = omega arith in rw none (sym (total_none (scans knots) i))
 
+-- the knot that a turn's pair begins with
+abbrev at_turn : goal.After-list-in-loop-pair → ℕ
+at_turn c = c.args.i + (length (between c.args.knots.now c.args.i c.args.j) - length (windows_rest c.loop-pair.pair-iterator))
+
 -- what a turn has read
-turn : (c : goal.After-list-in-loop-pair) →
-    Pair c.args.knots.now (c.args.i + (length (between c.args.knots.now c.args.i c.args.j) - length (windows_rest c.loop-pair.pair-iterator))) c.index-pair-0.result c.index-pair-1.result
+turn : (c : goal.After-list-in-loop-pair) → Pair c.args.knots.now (at_turn c) c.index-pair-0.result c.index-pair-1.result
 turn c =
     let all = between c.args.knots.now c.args.i c.args.j in
+    let rest = length (windows_rest c.loop-pair.pair-iterator) in
     let v = c.loop-pair.invariant in
     let h = window_more all c.loop-pair.pair-iterator c.next.new.self _ _ c.in-Some.is c.next.ensures.steps (omega (arith, v.size)) v.most v.rest in
-    pair c.args.knots.now c.args.i c.args.j c.requires.1 c.requires.2 (length (windows_rest c.loop-pair.pair-iterator)) (length all - length (windows_rest c.loop-pair.pair-iterator))
-    (omega (arith, v.most)) (omega (arith, h.2, v.size)) c.in-Some.pair.now (λ k d b. h.3 k d (omega (arith, v.size, b)))
-    c.index-pair-0.result c.index-pair-1.result c.index-pair-0.is c.index-pair-1.is
+    pair c.args.knots.now c.args.i c.args.j c.requires.1 c.requires.2 rest (length all - rest) (omega (arith, v.most)) (omega (arith, h.2, v.size))
+    c.in-Some.pair.now (λ k d b. h.3 k d (omega (arith, v.size, b))) _ _ c.index-pair-0.is c.index-pair-1.is
 
 -- and what it adds
-added : (c : goal.After-total-sum) → let k = c.args.i + (length (between c.args.knots.now c.args.i c.args.j) - length (windows_rest c.loop-pair.pair-iterator)) in
-    to_z w64 c.loop-pair.sum-bits +ℤ to_z w64 (of_z w64 c.total-sum.result) ≡ total_over (scans c.args.knots.now) c.args.i (suc k)
+added : (c : goal.After-total-sum) →
+    to_z w64 c.loop-pair.sum-bits +ℤ to_z w64 (of_z w64 c.total-sum.result) ≡ total_over (scans c.args.knots.now) c.args.i (suc (at_turn c.before))
 added c =
     let p = turn c.before in
     more (scans c.args.knots.now) c.args.i _ (omega arith) p.inside _
     (piece_is c.args.knots.now _ _ _ p.left_is p.right_is p.inside _ _ _ c.gap.ensures c.list.ensures c.list-in-loop-pair.ensures)
     _ c.total-sum.result c.loop-pair.invariant.sum c.total-sum.type_inv c.total-sum.ensures
+
+sum_fits : (c : goal.After-total-sum) → SFits w64 (to_z w64 c.loop-pair.sum-bits +ℤ to_z w64 (of_z w64 c.total-sum.result))
+sum_fits c = rw (added c) (fits (scans c.args.knots.now) c.args.i _ (omega arith) (turn c.before).inside c.requires.0)
 
 pub loop-pair-init : goal.loop-pair-init
 loop-pair-init c =
@@ -121,19 +128,18 @@ total-sum-requires c =
     admitted c.args.knots.now _ _ _ p.left_is p.right_is p.inside _ _ _ c.gap.ensures c.list.ensures c.list-in-loop-pair.ensures c.requires.0
 
 pub overflow_add-sum : goal.overflow_add-sum
-overflow_add-sum c = rw (added c) (fits (scans c.args.knots.now) c.args.i _ (omega arith) (turn c.before).inside c.requires.0)
+overflow_add-sum = sum_fits
 
 pub loop-pair-preserved : goal.loop-pair-preserved
 loop-pair-preserved c =
     let all = between c.args.knots.now c.args.i c.args.j in
     let v = c.loop-pair.invariant in
     let h = window_more all c.loop-pair.pair-iterator c.next.new.self _ _ c.in-Some.is c.next.ensures.steps (omega (arith, v.size)) v.most v.rest in
-    let one : suc (c.args.i + (length all - length (windows_rest c.loop-pair.pair-iterator))) ≡ c.args.i + (length all - length (windows_rest c.next.new.self)) = omega (arith, h.0, v.most) in
+    let one : suc (at_turn c.before) ≡ c.args.i + (length all - length (windows_rest c.next.new.self)) = omega (arith, h.0, v.most) in
     record {
       size = search rules;
       least = omega (arith, h.0, h.2, v.size);
       most = omega (arith, h.0, v.most);
       rest = h.1;
-      sum = to_z-of_z {w = w64} (rw (added c) (fits (scans c.args.knots.now) c.args.i _ (omega arith) (turn c.before).inside c.requires.0)) ∙ added c ∙
-          ap (total_over (scans c.args.knots.now) c.args.i) one;
+      sum = to_z-of_z {w = w64} (sum_fits c) ∙ added c ∙ ap (total_over (scans c.args.knots.now) c.args.i) one;
     }

@@ -21,4 +21,5 @@ returns c =
     let all = scans c.args.knots.now in
     let place = trend_place all c.args.x in
     let far = distance all (is_last_or_lone all) c.args.x place (trend-lies all c.requires.chained c.args.x c.requires.within) in
-    result_is c.of_piece.result c.of_piece.type_inv ∙ rw c.piece_of_trend-k.ensures at (c.of_piece.ensures trend (λ h p q r n gave. search rules)) ∙ ap (trend (piece_of all place.k)) far
+    let there = rw c.piece_of_trend-k.ensures at (c.of_piece.ensures trend (λ h p q r n gave. search rules)) in
+    result_is c.of_piece.result c.of_piece.type_inv ∙ there ∙ ap (trend (piece_of all place.k)) far
