@@ -7,6 +7,7 @@ use knot::Refusal;
 use reel::{Answer, Reel};
 
 // The limit, then what read refuses, then 8.
+#[tactic(auto, using(crate::proofs::Opening::opens_over))]
 pub(crate) fn open_block(bytes: &[u8]) -> Result<Reel, Refusal>
     ensures { Opens result bytes.now }
 {

@@ -1,20 +1,17 @@
 -- Over the limit 1, and else what read refuses, then 8, or the block's list.
 use Rattle.std.proofs.Common.{arith}
-use Rattle.report_lines.proofs.Opening.{opens_over, opens_refused, opens_few, opens_list}
+use Rattle.report_lines.proofs.Opening.{opens_refused, opens_few, opens_list}
 use Rattle.report_lines.proofs.opened.open_block.Goals as goal
 
-pub returns-then-bytes-gt-BLOCK_MAX : goal.returns-then-bytes-gt-BLOCK_MAX
-returns-then-bytes-gt-BLOCK_MAX c = opens_over c.args.bytes.now c.if-bytes-gt-BLOCK_MAX.true
-
 pub returns-in-Refused : goal.returns-in-Refused
-returns-in-Refused c = opens_refused c.args.bytes.now c.if-bytes-gt-BLOCK_MAX.false c.read-handed.ensures.does c.in-Refused.cause c.in-Refused.is
+returns-in-Refused c = opens_refused c.args.bytes.now (omega arith) c.read-handed.ensures.does c.in-Refused.cause c.in-Refused.is
 
 pub returns-then-count-lt-KNOTS_MIN : goal.returns-then-count-lt-KNOTS_MIN
 returns-then-count-lt-KNOTS_MIN c =
-    opens_few c.args.bytes.now c.if-bytes-gt-BLOCK_MAX.false c.read-handed.ensures.does c.in_default.not-Refused
+    opens_few c.args.bytes.now (omega arith) c.read-handed.ensures.does c.in_default.not-Refused
     (omega (arith, c.if-count-lt-KNOTS_MIN.true, c.count.ensures))
 
 pub returns : goal.returns
 returns c =
-    opens_list c.args.bytes.now c.if-bytes-gt-BLOCK_MAX.false c.read-handed.ensures.does c.in_default.not-Refused
+    opens_list c.args.bytes.now (omega arith) c.read-handed.ensures.does c.in_default.not-Refused
     (omega (arith, c.if-count-lt-KNOTS_MIN.false, c.count.ensures))
