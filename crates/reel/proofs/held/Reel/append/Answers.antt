@@ -26,7 +26,7 @@ pub listed : goal.listed
 listed c = omega (arith, room c, c.args.self.room)
 
 pub bounds-self-self : goal.bounds-self-self
-bounds-self-self c = room c
+bounds-self-self c = omega (arith, room c)
 
 pub invariant_of-self : goal.invariant_of-self
 invariant_of-self c =
