@@ -1,5 +1,5 @@
 // What stands on a line: fields, parted by one space each.
-ghost use Rattle.std.specs.Prelude.{◌≡◌, ◌≤◌, ◌<◌, length};
+ghost use Rattle.std.specs.Prelude.{[], ◌∷◌, ◌≡◌, ◌≢◌, ◌↔◌, length, IfOk, IsTrue, MatchResult};
 
 // The most bytes of a line that is read, without its line feed.
 pub const LINE_MAX: usize = 524_288;
@@ -11,41 +11,61 @@ pub fn room(byte: u8) -> [u8; LINE_MAX + 1]
     [byte; LINE_MAX + 1]
 }
 
-// Where nothing starts. What is read of a field says where the next one starts: past the line's end after the last
-// field, and here after one that is not what it should be. So fields are read one after the other, and only the place
-// after the last is looked at.
-pub const NOWHERE: usize = 0xffff_ffff_ffff_ffff;
+// A field that is not there or not what it should be, or one more than there should be.
+#[derive(Clone, Copy, Debug, PartialEq, Eq)]
+pub struct Unreadable;
 
-// The symbols: the digits are 0 to 9, the small letters 10 to 35, and these. A field ends at a space or with the line.
-pub const END: u8 = 36;
+// The fields of a line that are still to be read: what stands from the next one on, nothing behind the last.
+#[derive(Clone, Copy)]
+pub struct Fields<'a> {
+    rest: Option<&'a str>,
+}
 
-pub const MINUS: u8 = 37;
+impl<'a> Fields<'a> {
+    ghost use Rattle.fields.specs.Split.{left, split};
 
-const OTHER: u8 = 38;
+    // Of a line; one that is no text has none that can be read.
+    pub fn of(line: &'a [u8]) -> Result<Fields<'a>, Unreadable>
+        ensures { IfOk result (λ fields. left fields ≡ split line.now) }
+    {
+        match str::from_utf8(line) {
+            Ok(text) => Ok(Fields { rest: Some(text) }),
+            Err(_) => Err(Unreadable),
+        }
+    }
 
-// The symbol that stands at a place.
-pub fn symbol_at(line: &[u8], at: usize) -> u8
-    ensures { (result ≤ 38) × ((result ≡ 36 → ⊥) → at < length line.now) }
-{
-    if line.len() <= at {
-        return END;
+    pub fn is_end(&self) -> bool
+        ensures { IsTrue result ↔ left self.now ≡ [] }
+    {
+        self.rest.is_none()
     }
-    let character = line[at];
-    if character < b'0' {
-        return match character {
-            b' ' => END,
-            b'-' => MINUS,
-            _ => OTHER,
-        };
+
+    // That no field is left.
+    pub fn end(&self) -> Result<(), Unreadable>
+        ensures { MatchResult result (λ _. left self.now ≡ []) (λ _. left self.now ≢ []) }
+    {
+        if self.is_end() {
+            Ok(())
+        } else {
+            Err(Unreadable)
+        }
     }
-    if character <= b'9' {
-        return character - b'0';
+
+    // The next field, which ends at a space or with the line.
+    pub fn field(&mut self) -> Result<&'a str, Unreadable>
+        ensures { MatchResult result (λ field. left self.old ≡ field.now ∷ left self.new)
+            (λ _. (left self.old ≡ []) × (left self.new ≡ [])) }
+    {
+        let rest = self.rest.ok_or(Unreadable)?;
+        match rest.split_once(' ') {
+            Some((field, behind)) => {
+                self.rest = Some(behind);
+                Ok(field)
+            }
+            None => {
+                self.rest = None;
+                Ok(rest)
+            }
+        }
     }
-    if character < b'a' {
-        return OTHER;
-    }
-    if character <= b'z' {
-        return character - b'a' + 10;
-    }
-    OTHER
 }

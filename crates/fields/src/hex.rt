@@ -1,52 +1,46 @@
 // Bytes in hexadecimal, two lower-case digits each; a minus for none.
-ghost use Rattle.std.specs.Prelude.{◌≤◌, length};
+ghost use Rattle.std.specs.Prelude.{◌≡◌, ◌≤◌, ◌<◌, length, IfOk, IfSome, drop};
 
-use crate::field::{END, MINUS, NOWHERE, symbol_at};
+use crate::field::{Fields, Unreadable};
 
-#[derive(Clone, Copy)]
-pub struct Taken {
-    pub count: usize,
-    pub next: usize,
+fn digit(character: u8) -> Option<u8>
+    ensures { IfSome result (λ d. d < 16) }
+{
+    match character {
+        b'0'..=b'9' => Some(character - b'0'),
+        b'a'..=b'f' => Some(character - b'a' + 10),
+        _ => None,
+    }
 }
 
-// The bytes of the field at a place, to the front of the room.
-pub fn bytes(line: &[u8], at: usize, room: &mut [u8]) -> Taken
-    ensures { result.count ≤ length room.new }
+// How many bytes the digits of a field have, which are put to the front of the room.
+fn put(field: &[u8], room: &mut [u8]) -> Option<usize>
+    ensures { IfSome result (λ n. n ≤ length room.new) }
 {
-    let mut count = 0;
-    let mut end = at;
-    let mut limit = room.len();
-    if symbol_at(line, at) == MINUS {
-        end = at + 1;
-        limit = 0;
+    let count = field.len() / 2;
+    if field.is_empty() || field.len() % 2 != 0 || room.len() < count {
+        return None;
     }
-    loop {
-        let high = symbol_at(line, end);
-        if high == END {
-            if at < end {
-                return Taken {
-                    count,
-                    next: end + 1,
-                };
-            }
-            break;
-        }
-        if 15 < high {
-            break;
-        }
-        let low = symbol_at(line, end + 1);
-        if 15 < low {
-            break;
-        }
-        if limit <= count {
-            break;
-        }
-        room[count] = high * 16 + low;
-        count += 1;
-        end += 2;
+    for (i, pair) in field.chunks_exact(2).enumerate() {
+        room[i] = digit(pair[0])? * 16 + digit(pair[1])?;
     }
-    Taken {
-        count: 0,
-        next: NOWHERE,
+    Some(count)
+}
+
+impl Fields<'_> {
+    ghost use Rattle.fields.specs.Split.{left};
+
+    // The next bytes, at the front of the room.
+    pub fn bytes<'r>(&mut self, room: &'r mut [u8]) -> Result<&'r [u8], Unreadable>
+        ensures within { IfOk result (λ bytes. length bytes.now ≤ length room.old) }
+        ensures on { left self.new ≡ drop 1 (left self.old) }
+    {
+        let field = self.field()?;
+        let count = if field == "-" {
+            0
+        } else {
+            put(field.as_bytes(), room).ok_or(Unreadable)?
+        };
+        Ok(&room[..count])
     }
 }

@@ -5,6 +5,4 @@ mod field;
 mod hex;
 mod number;
 
-pub use field::{END, LINE_MAX, room, symbol_at};
-pub use hex::{Taken, bytes};
-pub use number::{Number, Signed, UNSIGNED_MAX, number_at, signed_at};
+pub use field::{Fields, LINE_MAX, Unreadable, room};

@@ -1,83 +1,41 @@
 // Numbers in decimal.
-ghost use Rattle.std.specs.Prelude.{true, false, ◌≡◌, ◌+◌, ◌≤◌, ◌<◌, length};
+ghost use Rattle.std.specs.Prelude.{[], ◌≡◌, ◌≤◌, ◌≤ℤ◌, pos, IfOk, IfSome, drop, slice_index_or};
+ghost use Rattle.std.specs.Str.Parse.{signed_digits_value};
 
-use crate::field::{END, MINUS, NOWHERE, symbol_at};
+use crate::field::{Fields, Unreadable};
 
-// The greatest number of 32 bits without a sign and with one, and the least, without its minus.
-pub const UNSIGNED_MAX: u64 = 0xffff_ffff;
-
-const SIGNED_MAX: u64 = 0x7fff_ffff;
-
-const SIGNED_LEAST: u64 = 0x8000_0000;
-
-#[derive(Clone, Copy)]
-pub struct Number {
-    pub negative: bool,
-    pub magnitude: u32,
-    pub next: usize,
-}
-
-// The number of the field at a place, from −least to most. The limits have 32 bits, as the calls' arguments have.
-pub fn number_at(line: &[u8], at: usize, most: u64, least: u64) -> Number
-    requires { (most ≤ 4294967295) × (least ≤ 4294967295) }
-    ensures { (result.magnitude ≤ most + least) × (at ≤ length line.now → at < result.next)
-        × (result.negative ≡ false → result.magnitude ≤ most) × (result.negative ≡ true → result.magnitude ≤ least) }
+// The number of a field, if it lies within these limits.
+fn number(field: &str, least: i64, most: i64) -> Option<i64>
+    ensures limits { IfSome result (λ z. (least ≤ℤ z) × (z ≤ℤ most)) }
+    ensures value { IfSome result (λ z. z ≡ signed_digits_value 10 field.now) }
 {
-    let negative = symbol_at(line, at) == MINUS;
-    let mut from = at;
-    let mut limit = most;
-    if negative {
-        from = at + 1;
-        limit = least;
+    // a plus sign, which `parse` takes, is none of ours
+    if field.starts_with('+') {
+        return None;
     }
-    let mut end = from;
-    let mut value: u64 = 0;
-    loop {
-        let digit = symbol_at(line, end);
-        if digit == END {
-            if from < end {
-                return Number {
-                    negative,
-                    magnitude: value as u32,
-                    next: end + 1,
-                };
-            }
-            break;
-        }
-        if 9 < digit {
-            break;
-        }
-        value = value * 10 + digit as u64;
-        if limit < value {
-            break;
-        }
-        end += 1;
-    }
-    Number {
-        negative,
-        magnitude: 0,
-        next: NOWHERE,
-    }
+    let z = field.parse::<i64>().ok()?;
+    (least <= z && z <= most).then_some(z)
 }
 
-// A number with a sign, and where the next field starts.
-#[derive(Clone, Copy)]
-pub struct Signed {
-    pub value: i32,
-    pub next: usize,
-}
+impl Fields<'_> {
+    ghost use Rattle.fields.specs.Split.{left};
 
-// The number with a sign of the field at a place.
-pub fn signed_at(line: &[u8], at: usize) -> Signed
-    ensures { at ≤ length line.now → at < result.next }
-{
-    let number = number_at(line, at, SIGNED_MAX, SIGNED_LEAST);
-    let mut value = number.magnitude as i64;
-    if number.negative {
-        value = 0 - value;
+    // The next number, with no sign, up to a limit.
+    pub fn unsigned(&mut self, most: u32) -> Result<u32, Unreadable>
+        ensures limit { IfOk result (λ n. n ≤ most) }
+        ensures value { IfOk result (λ n. pos n ≡ signed_digits_value 10 (slice_index_or (left self.old) 0 [])) }
+        ensures on { left self.new ≡ drop 1 (left self.old) }
+    {
+        let z = number(self.field()?, 0, i64::from(most)).ok_or(Unreadable)?;
+        Ok(z as u32)
     }
-    Signed {
-        value: value as i32,
-        next: number.next,
+
+    // The next number with a sign.
+    pub fn signed(&mut self) -> Result<i32, Unreadable>
+        ensures value { IfOk result (λ z. z ≡ signed_digits_value 10 (slice_index_or (left self.old) 0 [])) }
+        ensures on { left self.new ≡ drop 1 (left self.old) }
+    {
+        let z = number(self.field()?, i64::from(i32::MIN), i64::from(i32::MAX)).ok_or(Unreadable)?;
+        Ok(z as i32)
     }
 }

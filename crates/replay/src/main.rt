@@ -1,14 +1,15 @@
 // The test program: a script of calls from standard input, one to a line, run on one reel that starts empty. It writes
 // an answer for each; docs/REPLAY.md has the lines. What it writes is compared, not proved: it promises that it is safe
-// for every script, and that the reel is held at every call.
+// for every script, and of the reel what its type says at every call.
 #![tactic(auto)]
 
 mod answers;
 mod line;
+mod line_error;
+mod pair_calls;
 mod reel_calls;
 mod script;
 mod views;
-mod words;
 
 use std::io;
 use std::io::{BufWriter, Write};

@@ -1,74 +1,69 @@
 // The workshop's calls, which take a block and leave the reel alone: `view HEX K N` and `viewat HEX K N I`.
-use crate::answers::{refused, say_unreadable};
-use fields::{UNSIGNED_MAX, bytes, number_at, room};
-use readings::{Shown, look};
+use crate::answers::refused;
+use crate::line_error::LineError;
+use fields::{Fields, Unreadable, room};
+use knot::Refusal;
+use readings::{View, look};
 use reel::Reel;
 use std::io;
 use std::io::Write;
 
 // A reading with what stands before it, or that it is past the last.
-fn say<W: Write>(out: &mut W, shown: Shown, before: &[u8]) -> io::Result<()> {
+fn say<W: Write>(out: &mut W, shown: Option<u16>, before: &str) -> io::Result<()> {
     match shown {
-        Shown::Reading(reading) => {
-            out.write_all(before)?;
-            write!(out, "{reading}")
-        }
-        Shown::Past => out.write_all(b"past"),
+        Some(reading) => write!(out, "{before}{reading}"),
+        None => out.write_all(b"past"),
     }
-}
-
-// The first `count` that are shown.
-fn say_all<W: Write>(out: &mut W, block: &[u8], k: u32, n: u32, count: u32) -> io::Result<()> {
-    let mut i = 0;
-    while i < count {
-        let seen = look(block, k, n, i);
-        let shown = seen.shown;
-        say(out, shown, b" ")?;
-        i += 1;
-    }
-    Ok(())
 }
 
 // Why a view is refused; where it is the reader's 6, with the reason that a read of the block has.
-fn say_refused<W: Write>(out: &mut W, refusal: u32, block: &[u8]) -> io::Result<()> {
-    let reel = Reel::empty();
-    refused(out, refusal, reel.read_reason(block))
+fn say_refused<W: Write>(out: &mut W, cause: Refusal, block: &[u8]) -> io::Result<()> {
+    refused(out, cause, Reel::empty().read_reason(block))
 }
 
-// `view HEX K N`: how many are shown, and each of them.
-pub fn view<W: Write>(out: &mut W, line: &[u8], at: usize) -> io::Result<()> {
-    let mut block = room(0);
-    let taken = bytes(line, at, &mut block);
-    let length = taken.count;
-    let k = number_at(line, taken.next, UNSIGNED_MAX, 0);
-    let n = number_at(line, k.next, UNSIGNED_MAX, 0);
-    if n.next != line.len() + 1 {
-        return say_unreadable(out);
+// How many readings are shown of knot k, and each of them.
+fn say_view<W: Write>(out: &mut W, block: &[u8], k: u32, n: u32) -> io::Result<()> {
+    match View::of(block, k, n) {
+        Ok(view) => {
+            write!(out, "view {}", view.count())?;
+            for i in 0..view.count() {
+                say(out, view.at(i), " ")?;
+            }
+            Ok(())
+        }
+        Err(cause) => say_refused(out, cause, block),
     }
-    let seen = look(&block[0..length], k.magnitude, n.magnitude, 0);
-    let count = seen.count;
-    if seen.refusal != 0 {
-        return say_refused(out, seen.refusal, &block[0..length]);
-    }
-    write!(out, "view {count}")?;
-    say_all(out, &block[0..length], k.magnitude, n.magnitude, count)
 }
 
-// `viewat HEX K N I`: the one numbered I of them.
-pub fn view_at<W: Write>(out: &mut W, line: &[u8], at: usize) -> io::Result<()> {
-    let mut block = room(0);
-    let taken = bytes(line, at, &mut block);
-    let length = taken.count;
-    let k = number_at(line, taken.next, UNSIGNED_MAX, 0);
-    let n = number_at(line, k.next, UNSIGNED_MAX, 0);
-    let i = number_at(line, n.next, UNSIGNED_MAX, 0);
-    if i.next != line.len() + 1 {
-        return say_unreadable(out);
+// The reading shown of knot k that has the index i.
+fn say_reading<W: Write>(out: &mut W, block: &[u8], k: u32, n: u32, i: u32) -> io::Result<()> {
+    match look(block, k, n, i) {
+        Ok(seen) => say(out, seen.shown, "reading "),
+        Err(cause) => say_refused(out, cause, block),
     }
-    let seen = look(&block[0..length], k.magnitude, n.magnitude, i.magnitude);
-    let shown = seen.shown;
-    if seen.refusal != 0 {
-        return say_refused(out, seen.refusal, &block[0..length]);
-    }
-    say(out, shown, b"reading ")
+}
+
+// `HEX K N`.
+fn asked<'r>(fields: &mut Fields, room: &'r mut [u8]) -> Result<(&'r [u8], u32, u32), Unreadable> {
+    let block = fields.bytes(room)?;
+    let k = fields.unsigned(u32::MAX)?;
+    let n = fields.unsigned(u32::MAX)?;
+    Ok((block, k, n))
+}
+
+// `view HEX K N`.
+pub fn view<W: Write>(out: &mut W, mut fields: Fields) -> Result<(), LineError> {
+    let mut bytes = room(0);
+    let (block, k, n) = asked(&mut fields, &mut bytes)?;
+    fields.end()?;
+    Ok(say_view(out, block, k, n)?)
+}
+
+// `viewat HEX K N I`.
+pub fn view_at<W: Write>(out: &mut W, mut fields: Fields) -> Result<(), LineError> {
+    let mut bytes = room(0);
+    let (block, k, n) = asked(&mut fields, &mut bytes)?;
+    let i = fields.unsigned(u32::MAX)?;
+    fields.end()?;
+    Ok(say_reading(out, block, k, n, i)?)
 }

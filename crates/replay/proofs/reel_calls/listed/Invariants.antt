@@ -1,12 +1,10 @@
--- Each number starts after the one before it.
-use Rattle.std.proofs.Common.{◌≡◌, ◌+◌, ◌-◌, ◌≤◌, length}
+-- What is kept has room; each turn reads a field more.
+use Rattle.std.proofs.Common.{◌≤◌, length}
+use Rattle.fields.specs.Split.{left}
 use Rattle.replay.proofs.reel_calls.listed.Given as goal
 
-abbrev pub invariant-loop-from : goal.invariant-loop-from
-invariant-loop-from g l = record {
-  room : length l.list ≡ 9;
-  within : l.count ≤ 9;
-}
+abbrev pub invariant-loop-fields : goal.invariant-loop-fields
+invariant-loop-fields l = l.count ≤ length l.room
 
-abbrev pub decreases-loop-from : goal.decreases-loop-from
-decreases-loop-from g l = length l.line + 1 - l.from
+abbrev pub decreases-loop-fields : goal.decreases-loop-fields
+decreases-loop-fields l = length (left l.fields)
