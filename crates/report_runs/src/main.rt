@@ -28,10 +28,7 @@ fn run<R: Read, W: Write>(from: &mut R, out: &mut W, size: usize) -> io::Result<
 {
     let mut block = block_room();
     let n = read_full(from, &mut block[..size])?;
-    let told = report(&block[..n]);
-    let length = told.length;
-    let text = told.text;
-    out.write_all(&text[..length])?;
+    out.write_all(report(&block[..n]).bytes())?;
     out.write_all(b"\n")
 }
 
@@ -39,8 +36,7 @@ fn main(rt: HostRuntime) -> io::Result<()> {
     let mut from = rt.stdin();
     let mut out = rt.stdout();
     let mut head = [0u8; 4];
-    let mut i = 0;
-    while i < BLOCKS_MAX {
+    for _ in 0..BLOCKS_MAX {
         let got = read_full(&mut from, &mut head)?;
         if got < 4 {
             return Ok(());
@@ -50,7 +46,6 @@ fn main(rt: HostRuntime) -> io::Result<()> {
             return Ok(());
         }
         run(&mut from, &mut out, size)?;
-        i += 1;
     }
     Ok(())
 }
