@@ -7,6 +7,8 @@ ghost use Rattle.chain.specs.Machine.{Reached};
 use knot::Knot;
 use rounding::POSITION_UNIT;
 
+// `Reached` stays a clause: a struct of list and position would be made for one call and taken apart in it.
+
 // The first piece that ends after x, or else the last: so many of the inner knots, which start a piece and end one, lie
 // at x or before it.
 pub fn piece_at(knots: &[Knot], x: u32) -> usize

@@ -1,4 +1,5 @@
-// Document 01, "Half-sum of grade m against n", with fraction a/d.
+// Document 01, "Half-sum of grade m against n", with fraction a/d. Bounds of grades and weights stay clauses, since
+// docs/READING.md has these contracts.
 ghost use Rattle.std.specs.Prelude.{◌≡◌, ◌*◌, ◌-◌, ◌^◌, ◌≤◌};
 ghost use Rattle.hermite.specs.HalfSum.{g};
 ghost use Rattle.hermite.specs.Polynomial.{coefficient};

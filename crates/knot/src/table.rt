@@ -65,7 +65,8 @@ impl Refusal {
     }
 }
 
-// The number of what a test finds: that of the refusal; 0 where nothing refuses.
+// The number of what a test finds: that of the refusal; 0 where nothing refuses. No `From`: both types are the
+// library's.
 pub fn number_of(found: Result<(), Refusal>) -> u32
     ensures { Numbers result (refusal found) }
 {

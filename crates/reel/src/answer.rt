@@ -2,7 +2,8 @@
 use crate::held::Reel;
 use knot::Refusal;
 
-// What a call answers.
+// What a call answers. No `Result`: document 01 names an enum, and the theorem on sequences (`Called`, `Right`) speaks
+// of it.
 #[derive(Clone, Copy)]
 pub enum Answer {
     Accepted,

@@ -8,7 +8,8 @@ use crate::answer::{Answer, Handed};
 use first_cause::{append_cause, correct_cause, query_cause, range_cause};
 use knot::{KNOTS_MAX, Knot, Refusal};
 
-// The first `count` knots are the list; the others are free. What a reel holds can stand: that is part of the type.
+// The first `count` knots are the list; the others are free, since the engine allocates nothing. What a reel holds can
+// stand: that is part of the type.
 #[derive(Clone, Copy)]
 pub struct Reel {
     pub(crate) knots: [Knot; KNOTS_MAX],
@@ -149,7 +150,8 @@ impl Reel {
         }
     }
 
-    // The value at query position x, in 1/65,536 count.
+    // The value at query position x, in 1/65,536 count. It and `trend` stay two: each promises what its own call says, and
+    // one function of both would have a longer contract than body.
     pub fn value(self, x: u32) -> Handed
         ensures { Does (Calls.value x) self result.answer result.reel [] }
     {
