@@ -9,7 +9,6 @@ HEAD = """// The engine's functions for C to call, to be measured.
 #![tactic(auto)]
 
 ghost use Rattle.std.specs.Prelude.{◌*◌, ◌≤◌};
-ghost use Rattle.reel.specs.Machine.{Held};
 ghost use Rattle.rounding.specs.Piece.{piece, position_unit};
 ghost use Rattle.rounding.specs.Size.{Admitted};
 
@@ -39,12 +38,8 @@ fn told(refused: u32, gathered: i64) -> i64 {
     }
 }
 
-fn opened(block: &[u8]) -> Reel
-    ensures { Held result }
-{
-    let empty = Reel::empty();
-    let handed = empty.read(block);
-    handed.reel
+fn opened(block: &[u8]) -> Reel {
+    Reel::empty().read(block).reel
 }
 """
 
@@ -58,10 +53,7 @@ pub extern "C" fn {side}_{name}(h: u64, left: &[i32], right: &[i32], r: u64) -> 
 """
 
 TURN = """
-fn turn_{name}(reel: Reel, block: &[u8], list: &[i32], out: &mut [u8], x: u32, i: u32) -> Handed
-    requires {{ Held reel }}
-    ensures {{ Held result.reel }}
-{{
+fn turn_{name}(reel: Reel, block: &[u8], list: &[i32], out: &mut [u8], x: u32, i: u32) -> Handed {{
     {call}
 }}
 
@@ -70,31 +62,17 @@ pub extern "C" fn {side}_reel_{name}(block: &[u8], list: &[i32], out: &mut [u8],
     let mut reel = opened(block);
     let mut gathered = 0;
     let mut refused = 0;
-    let mut i = 0;
-    while i < rounds {{
+    for i in 0..rounds {{
         let handed = turn_{name}(reel, block, list, out, x, i);
         reel = handed.reel;
         let answer = handed.answer;
         gathered = (gathered >> 1) ^ number(answer);
         refused = refused | refusals(answer);
-        i += 1;
     }}
     let written = reel.write(out);
     let answer = written.answer;
     told(refused, gathered ^ number(answer))
 }}
-"""
-
-INVARIANTS = """-- The reel that a turn hands to the next is held.
-use Rattle.std.proofs.Common.{{◌-◌}}
-use Rattle.reel.specs.Machine.{{Held}}
-use Rattle.measured.proofs.{side}_reel_{name}.Given as goal
-
-abbrev pub invariant-loop-i : goal.invariant-loop-i
-invariant-loop-i l = Held l.reel
-
-abbrev pub decreases-loop-i : goal.decreases-loop-i
-decreases-loop-i l = l.rounds - l.i
 """
 
 PIECES = {
@@ -127,9 +105,6 @@ def put(repository, side):
         text += PIECE.format(side=side, name=name, call=call)
     for name, call in CALLS.items():
         text += TURN.format(side=side, name=name, call=call)
-        proofs = crate / "proofs" / f"{side}_reel_{name}"
-        proofs.mkdir(parents=True)
-        (proofs / "Invariants.antt").write_text(INVARIANTS.format(side=side, name=name))
     (crate / "src" / "lib.rt").write_text(text)
     listed = repository / "crates.txt"
     below = next(line.split(":")[1] for line in listed.read_text().splitlines() if line.startswith("reel:"))
