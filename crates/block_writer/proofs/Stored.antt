@@ -42,9 +42,6 @@ fewer-left {out = out} {b = b} us rest left stored next = record {
 abbrev pub Coefficients : List ℕ → ℕ → List ℤ → List ℕ → ℕ → Type 0
 Coefficients before i list out j = Left before (i + 1) (map coefficient_word list) out (i + 1 + j) (map coefficient_word (drop j list))
 
-pub none_stored : (before : List ℕ) (i : ℕ) (list : List ℤ) → Coefficients before i list before 0
-none_stored before i list = rw add-zero (all_left before (i + 1) (map coefficient_word list))
-
 module _ (before : List ℕ) (i : ℕ) (list : List ℤ) (out : List ℕ) (j : ℕ) (come : Coefficients before i list out j) where
   pub one_stored : j < length list → (out' : List ℕ) (w : ℕ) → w ≡ coefficient_word (get_or list j (pos 0)) →
       out' ≡ sets out (4 * (i + 1 + j)) (bytes_of w) → Coefficients before i list out' (j + 1)

@@ -7,7 +7,8 @@ ghost use Rattle.chain.specs.Machine.{Reached};
 use knot::Knot;
 use rounding::POSITION_UNIT;
 
-// `Reached` stays a clause: a struct of list and position would be made for one call and taken apart in it.
+// `Chained` and `Reached` stay clauses: a reel has both of the list that it lends, and a struct of list and position
+// would be made for one call and taken apart in it.
 
 // The first piece that ends after x, or else the last: so many of the inner knots, which start a piece and end one, lie
 // at x or before it.

@@ -11,8 +11,8 @@ use crate::place::{piece_at, piece_of_trend};
 use knot::{Knot, gap};
 use rounding::POSITION_UNIT;
 
-// What f gives of piece k at query position x: its value or its trend. Both are passed as closures: a function of another
-// crate's inner module, passed by its name, gets no contract.
+// What f gives of piece k at query position x: its value or its trend. Both are passed as closures: a function of
+// another crate's inner module, passed by its name, gets no contract.
 fn of_piece<F: Fn(u64, &[i32], &[i32], u64) -> i64>(knots: &[Knot], k: usize, x: u32, f: F) -> i64
     requires chained { Chained knots.now }
     requires lies { InPiece (scans knots.now) k x }

@@ -16,7 +16,7 @@ fn coefficient(alpha: i32, a: i32, beta: i32, b: i32) -> i32
     requires { (Within multiplier_max alpha) × (Within multiplier_max beta) }
     ensures { result ≡ limited (alpha *ℤ a +ℤ beta *ℤ b) }
 {
-    let c = alpha as i64 * a as i64 + beta as i64 * b as i64;
+    let c = i64::from(alpha) * i64::from(a) + i64::from(beta) * i64::from(b);
     if SIZE_MAX < magnitude(c) {
         return (SIZE_MAX + 1) as i32;
     }

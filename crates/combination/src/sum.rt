@@ -1,4 +1,5 @@
-// The sum of two lists of knots, knot by knot, and the first cause that refuses it.
+// The sum of two lists of knots, knot by knot, and the first cause that refuses it. The multipliers stay two arguments:
+// `combine` takes any, and a struct of two that fit would be taken apart at each coefficient.
 ghost use Rattle.std.specs.Prelude.{[], ◌∷◌, ◌≡◌, length};
 ghost use Rattle.integer.specs.Within.{Within};
 ghost use Rattle.rounding.specs.Limits.{multiplier_max};
@@ -50,10 +51,10 @@ fn summed(
 fn multiplier_cause(alpha: i32, beta: i32) -> Result<(), Refusal>
     ensures { refusal result ≡ first (bad_multiplier alpha ∷ bad_multiplier beta ∷ []) }
 {
-    if MULTIPLIER_MAX < magnitude(alpha as i64) {
+    if MULTIPLIER_MAX < magnitude(i64::from(alpha)) {
         return Err(Refusal::Multiplier);
     }
-    if MULTIPLIER_MAX < magnitude(beta as i64) {
+    if MULTIPLIER_MAX < magnitude(i64::from(beta)) {
         return Err(Refusal::Multiplier);
     }
     Ok(())

@@ -1,6 +1,8 @@
 // What stands on a line: fields, parted by one space each.
 ghost use Rattle.std.specs.Prelude.{[], ◌∷◌, ◌≡◌, ◌≢◌, ◌↔◌, length, IfOk, IsTrue, MatchResult};
 
+use input::filled;
+
 // The most bytes of a line that is read, without its line feed.
 pub const LINE_MAX: usize = 524_288;
 
@@ -8,7 +10,7 @@ pub const LINE_MAX: usize = 524_288;
 pub fn room(byte: u8) -> [u8; LINE_MAX + 1]
     ensures { length result ≡ 524289 }
 {
-    [byte; LINE_MAX + 1]
+    filled(byte)
 }
 
 // A field that is not there or not what it should be, or one more than there should be.

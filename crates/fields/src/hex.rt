@@ -1,4 +1,5 @@
-// Bytes in hexadecimal, two lower-case digits each; a minus for none.
+// Bytes in hexadecimal, two lower-case digits each; a minus for none. By hand: the kit's `hex` takes upper case too,
+// and hands over a `Vec`.
 ghost use Rattle.std.specs.Prelude.{◌≡◌, ◌≤◌, ◌<◌, length, IfOk, IfSome, drop};
 
 use crate::field::{Fields, Unreadable};

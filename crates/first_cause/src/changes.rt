@@ -12,7 +12,7 @@ pub fn append_cause(knots: &[Knot], position: u32, coefficients: &[i32]) -> Resu
 {
     let count = knots.len();
     if KNOTS_MAX <= count {
-        return Err(Fault::Cause(Refusal::Full));
+        return Err(Refusal::Full.into());
     }
     list_cause(coefficients.len())?;
     let last = knots.last();

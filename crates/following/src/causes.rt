@@ -50,7 +50,8 @@ pub fn size_reason(
 ) -> Result<(), Spot>
     requires left { CloseBefore (neighbour left) knot.now.position }
     requires right { CloseAfter knot.now.position (neighbour right) }
-    ensures { too_large result ≡ first_too_large (size_products k (neighbour left.entry) (scan knot.now) (neighbour right.entry)) }
+    ensures { too_large result ≡ first_too_large
+        (size_products k (neighbour left.entry) (scan knot.now) (neighbour right.entry)) }
 {
     let position = knot.position;
     match (left, right) {

@@ -19,7 +19,8 @@ pub const VALUE_UNIT: i64 = 65_536;
 // Half-sums of grade −1 are 0.
 const HALF_SUM_OF_GRADE_MINUS_ONE: i64 = 0;
 
-// Step 2: u from m down to 0, over the sums g_i, each at most 6,435 times the greatest weight.
+// Step 2: u from m down to 0, over the sums g_i, each at most 6,435 times the greatest weight. They are 8 for
+// every m, which stands beside them: a slice of them would be another argument of `coefficient`.
 fn descended(m: usize, s: Fraction, g: &[i64]) -> i64
     requires { (m ≤ grade_max) × (Weights (6435 * (7 * size_max)) g.now) }
     ensures { result ≡ HalfSum.descended (coefficient g.now) s.a s.d m 0 }

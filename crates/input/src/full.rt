@@ -1,15 +1,22 @@
 // Reading until a buffer is full.
-ghost use Rattle.std.specs.Prelude.{◌≡◌, ◌≤◌, ◌<◌, length, take, IfOk};
+ghost use Rattle.std.specs.Prelude.{◌≡◌, ◌≤◌, ◌<◌, length, replicate, take, IfOk};
 ghost use Rattle.std.specs.Io.KnownBytes.{Consumes, IsAtEnd};
 
 use std::io;
 use std::io::Read;
 
+// A room for so many bytes, with this one in each place.
+pub fn filled<const N: usize>(byte: u8) -> [u8; N]
+    ensures { result ≡ replicate N byte }
+{
+    [byte; N]
+}
+
 // 65,536 zeros, for a loop that moves much data.
 pub fn large_buffer() -> [u8; 65_536]
     ensures { length result ≡ 65536 }
 {
-    [0; 65_536]
+    filled(0)
 }
 
 // Reads until the buffer is full or the input ends, and answers how many bytes stand at its start. On an empty buffer

@@ -3,4 +3,4 @@
 
 mod full;
 
-pub use full::{large_buffer, read_full};
+pub use full::{filled, large_buffer, read_full};

@@ -6,7 +6,8 @@ use crate::limits::COEFFICIENTS_MAX;
 use crate::reason::Spot;
 use crate::size::list_reason;
 
-// The coefficients past the grade are free: no promise speaks of them.
+// The coefficients past the grade are free: no promise speaks of them. An array and a grade, since nothing is
+// allocated.
 #[derive(Clone, Copy)]
 pub struct Knot {
     pub position: u16,
@@ -51,8 +52,8 @@ impl Knot {
         &self.coefficients[..self.grade as usize + 1]
     }
 
-    // What is too large of the list that serves the piece on the left of knot k, of h steps. Its name and the next wait
-    // for request 8/14, which gives a knot two lists.
+    // What is too large of the list that serves the piece on the left of knot k, of h steps. It and the next are two,
+    // since their definitions are (`left_list`, `right_list`), which request 8/14 tells apart.
     pub fn left_reason(&self, k: u32, h: u64) -> Result<(), Spot>
         requires { h ≤ gap_max }
         ensures { too_large result ≡ first_too_large (products k h (left_list (scan self.now))) }

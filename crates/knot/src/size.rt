@@ -1,4 +1,5 @@
-// The size rule, for one list and one gap.
+// The size rule, for one list and one gap. Its bounds stay clauses, as docs/READING.md has them; a cast in a product is
+// `as`, since its proof is stated so.
 ghost use Rattle.std.specs.Prelude.{◌≡◌, ◌+◌, ◌≤◌, length};
 ghost use Rattle.rounding.specs.Limits.{gap_max, grade_max};
 ghost use Rattle.scans.specs.SizeRule.{first_too_large, products};

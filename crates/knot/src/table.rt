@@ -41,7 +41,8 @@ impl Refusal {
         self as u32
     }
 
-    // The refusal of a number of the table. Not `TryFrom`: it cannot fail, since the caller knows the number to be one.
+    // The refusal of a number of the table. Not `TryFrom`, which can fail: docs/READING.md has it for numbers of the
+    // table.
     pub fn numbered(n: u32) -> Self
         requires { (1 ≤ n) × (n ≤ 14) }
         ensures { number result ≡ n }

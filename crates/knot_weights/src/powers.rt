@@ -1,4 +1,5 @@
-// The weights of a knot for a piece of h steps, in order of j; 0 above the grade.
+// The weights of a knot for a piece of h steps, in order of j; 0 above the grade. Bounds of h and of lists stay
+// clauses, as docs/READING.md has them; a cast in a product is `as`, since its proof is stated so.
 ghost use Rattle.std.specs.Prelude.{◌≡◌, ◌+◌, ◌≤◌, length};
 ghost use Rattle.hermite.specs.Blend.{right_weights};
 ghost use Rattle.hermite.specs.Polynomial.{coefficient};

@@ -1,6 +1,6 @@
 // A piece at distance r from its left knot, in 1/256 step: value, in 1/65,536 count, and trend, in 1/65,536 count
-// per step. Gap and knots are arguments of their own, since docs/READING.md has the contracts of `value`, `trend` and
-// `water::total` in this form.
+// per step. The setup of both ends stands in each, since an array that is handed back is copied. Gap and knots are
+// arguments of their own, since docs/READING.md has the contracts of `value`, `trend` and `water::total` in this form.
 ghost use Rattle.std.specs.Prelude.{◌≡◌, ◌*◌, ◌≤◌};
 ghost use Rattle.rounding.specs.Piece.{piece, position_unit};
 ghost use Rattle.rounding.specs.Size.{Admitted};

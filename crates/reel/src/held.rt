@@ -150,8 +150,8 @@ impl Reel {
         }
     }
 
-    // The value at query position x, in 1/65,536 count. It and `trend` stay two: each promises what its own call says, and
-    // one function of both would have a longer contract than body.
+    // The value at query position x, in 1/65,536 count. It and `trend` stay two: each promises what its own call says,
+    // and one function of both would have a longer contract than body.
     pub fn value(self, x: u32) -> Handed
         ensures { Does (Calls.value x) self result.answer result.reel [] }
     {
@@ -207,13 +207,13 @@ impl Reel {
     {
         match combination::combine(alpha, self.list(), beta, other.list()) {
             Err(refusal) => self.refused(refusal.cause()),
-            Ok(knots) => Handed {
-                reel: Reel {
-                    knots,
-                    count: self.count,
-                },
-                answer: Answer::Accepted,
-            },
+            Ok(knots) => {
+                let count = self.count;
+                Handed {
+                    reel: Reel { knots, count },
+                    answer: Answer::Accepted,
+                }
+            }
         }
     }
 

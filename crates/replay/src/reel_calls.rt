@@ -21,7 +21,8 @@ pub fn clear<W: Write>(out: &mut W, reel: Reel, fields: Fields) -> Result<Reel, 
 // One more than a knot takes: a longer list is refused whatever it holds, so the rest of it is read and not kept.
 const LISTED_MAX: usize = 9;
 
-// The numbers from the next field on, at the front of the room, as many as it takes.
+// The numbers from the next field on, at the front of the room, as many as it takes. No `for`: fields are no list, and
+// it runs until none is left.
 fn listed<'r>(mut fields: Fields, room: &'r mut [i32]) -> Result<&'r [i32], Unreadable> {
     let mut count = 0;
     while !fields.is_end() {

@@ -8,7 +8,8 @@ use reel::Reel;
 use std::io;
 use std::io::{Read, Write};
 
-// The bytes of a line that are read already, as far as there is room.
+// The bytes of a line that are read already, as far as there is room. No `Vec`: a line could then end with an error of
+// memory, which docs/REPLAY.md has no answer for.
 #[derive(Drop)]
 struct Gathered {
     room: [u8; LINE_MAX + 1],

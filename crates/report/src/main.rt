@@ -10,8 +10,5 @@ fn main(rt: HostRuntime) -> io::Result<()> {
     // a byte more than a block can have shows that there are too many
     let mut bytes = [0u8; BLOCK_MAX + 1];
     let n = read_full(&mut rt.stdin(), &mut bytes)?;
-    let told = report(&bytes[..n]);
-    let length = told.length;
-    let text = told.text;
-    rt.write_all(&text[..length])
+    rt.write_all(report(&bytes[..n]).bytes())
 }

@@ -27,9 +27,8 @@ fn put_shown(out: &mut [u8], at: usize, answer: Answer) -> usize
     ensures upper_bound { result ≤ at + 20 }
 {
     match answer {
-        Answer::Accepted => at,
         Answer::Number(z) => put_signed(out, at, z),
-        Answer::Refused(cause) => at,
+        Answer::Accepted | Answer::Refused(_) => at,
     }
 }
 
@@ -53,10 +52,7 @@ pub(crate) fn put_row(out: &mut [u8], at: usize, row: Row) -> usize
     let indexed = put_number(out, at, row.index, b' ');
     let started = put_number(out, indexed, row.from, b' ');
     let ended = put_number(out, started, row.to, b' ');
-    let value = row.value;
-    let valued = put_answer(out, ended, value, b' ');
-    let trend = row.trend;
-    let trended = put_answer(out, valued, trend, b' ');
-    let total = row.total;
-    put_answer(out, trended, total, b'\n')
+    let valued = put_answer(out, ended, row.value, b' ');
+    let trended = put_answer(out, valued, row.trend, b' ');
+    put_answer(out, trended, row.total, b'\n')
 }

@@ -16,6 +16,7 @@ impl Report {
     ghost use Rattle.std.specs.Prelude.{◌≡◌, length, take};
     ghost use Rattle.report_lines.specs.Machine.{room_max};
 
+    // Not `filled` of `input`, which belongs to the programs.
     pub(crate) fn room() -> [u8; REPORT_MAX]
         ensures { length result ≡ room_max }
     {

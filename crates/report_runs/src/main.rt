@@ -2,10 +2,10 @@
 // and writes its report with an empty line behind it.
 #![tactic(auto)]
 
-ghost use Rattle.std.specs.Prelude.{◌≡◌, ◌≤◌, length};
+ghost use Rattle.std.specs.Prelude.{◌≤◌};
 
 use block::BLOCK_MAX;
-use input::read_full;
+use input::{filled, read_full};
 use report_lines::report;
 use std::io;
 use std::io::{Read, Write};
@@ -16,17 +16,11 @@ const BLOCKS_MAX: usize = 65_536;
 // One word more than a block can have.
 const ROOM_MAX: usize = BLOCK_MAX + 4;
 
-fn block_room() -> [u8; ROOM_MAX]
-    ensures { length result ≡ 21168 }
-{
-    [0; ROOM_MAX]
-}
-
 // The report of the next block, of so many bytes.
 fn run<R: Read, W: Write>(from: &mut R, out: &mut W, size: usize) -> io::Result<()>
     requires { size ≤ 21168 }
 {
-    let mut block = block_room();
+    let mut block: [u8; ROOM_MAX] = filled(0);
     let n = read_full(from, &mut block[..size])?;
     out.write_all(report(&block[..n]).bytes())?;
     out.write_all(b"\n")

@@ -1,5 +1,5 @@
 // Scaling by a fraction, to the nearest, without a division and without a branch. Every scaling of the engine is a call
-// of `scaled`.
+// of `scaled`. Bounds of a number stay clauses, as docs/READING.md has them.
 ghost use Rattle.std.specs.Prelude.{◌≡◌, ◌+◌, ◌*◌, ◌/◌, ◌≤◌, ◌<◌, ◌^◌, ◌-◌};
 ghost use Rattle.integer.specs.Within.{Within};
 ghost use Rattle.scaling.specs.Divides.{Divides};

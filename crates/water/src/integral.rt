@@ -1,4 +1,4 @@
-// The total of a piece, in 1/720,720 of a count × step.
+// The total of a piece, in 1/720,720 of a count × step. A cast in a product is `as`, since its proof is stated so.
 ghost use Rattle.std.specs.Prelude.{◌≡◌, ◌≤◌, ◌<◌, pos, ◌*ℤ◌, get_or, length};
 ghost use Rattle.integer.specs.Sum;
 ghost use Rattle.hermite.specs.Polynomial.{coefficient};

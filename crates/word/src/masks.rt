@@ -1,4 +1,4 @@
-// The fields of a word, taken out and put back by shifts and masks.
+// The fields of a word, taken out and put back by shifts and masks: document 01's form.
 ghost use Rattle.std.specs.Prelude.{◌≡◌, ◌^◌, ◌<◌};
 ghost use Rattle.block.specs.Fields;
 ghost use Rattle.block.specs.Fields.{knot_count, header_spare};
@@ -37,7 +37,7 @@ pub fn header_spare(word: u32) -> u32
 pub fn header_word(count: u8, edition: u8) -> u32
     ensures { result ≡ header_word count edition }
 {
-    (count as u32) | ((edition as u32) << 8)
+    u32::from(count) | (u32::from(edition) << 8)
 }
 
 // Of a knot word: bits 0 to 15.
@@ -65,7 +65,7 @@ pub fn knot_word(position: u16, grade: u8) -> u32
     requires { grade < 2 ^ 3 }
     ensures { result ≡ knot_word position grade }
 {
-    ((position as u32) | ((grade as u32) << 16)) | (1 << 30)
+    (u32::from(position) | (u32::from(grade) << 16)) | (1 << 30)
 }
 
 // Of a coefficient word: bits 0 to 28, less bit 29, the sign.

@@ -18,7 +18,7 @@ pub fn count_readings(block: &[u8], edition: u32, from: usize) -> Result<usize, 
         return Ok(0);
     }
     let mut count = 0;
-    // No `for`: no bound is known before, and each way out is a return.
+    // No `for` up to the 33rd: its fault is a return, and behind the loop would stand a value that is never reached.
     loop {
         let word = load(block, from + count);
         if !is_reading(word) {

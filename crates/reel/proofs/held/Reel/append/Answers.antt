@@ -22,11 +22,19 @@ room c =
     let found = rw c.list.ensures at c.in-Ok.ensures in
     omega (arith, append-room (scans c.args.self) c.args.position c.args.coefficients.now (sym found.fault), length-scans c.args.self)
 
+pub returns-in-Ok : goal.returns-in-Ok
+unfolding scans
+returns-in-Ok c =
+    let r = c.args.self in
+    let found = rw c.list.ensures at c.in-Ok.ensures in
+    accepts (append c.args.position c.args.coefficients.now) r _ (sym found.fault) refl refl refl
+    (scans_appended r c.in-Ok.knot (room (goal.at.returns-in-Ok c).In-Ok) ∙ ap (λ s. scans r ++ s ∷ []) found.knot)
+
 pub listed : goal.listed
-listed c = omega (arith, room c, c.args.self.room)
+listed c = omega (arith, room (goal.at.listed c).In-Ok, c.args.self.room)
 
 pub bounds-self-self : goal.bounds-self-self
-bounds-self-self c = omega (arith, room c)
+bounds-self-self c = omega (arith, room (goal.at.bounds-self-self c).In-Ok)
 
 pub invariant_of-self : goal.invariant_of-self
 invariant_of-self c =
@@ -39,11 +47,3 @@ invariant_of-self c =
       few = omega (arith, here);
       standing = rw (scans_appended r knot here, found.knot) (changed-stands (append c.args.position c.args.coefficients.now) r (sym found.fault));
     }
-
-pub returns-in-Ok : goal.returns-in-Ok
-unfolding scans
-returns-in-Ok c =
-    let r = c.args.self in
-    let found = rw c.list.ensures at c.in-Ok.ensures in
-    accepts (append c.args.position c.args.coefficients.now) r _ (sym found.fault) refl refl refl
-    (scans_appended r c.in-Ok.knot (room (goal.at.returns-in-Ok c).In-Ok) ∙ ap (λ s. scans r ++ s ∷ []) found.knot)

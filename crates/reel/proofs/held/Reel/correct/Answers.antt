@@ -26,11 +26,19 @@ there c =
     let found = rw c.list.ensures at c.in-Ok.ensures in
     omega (arith, correct-there (scans c.args.self) c.args.k c.args.coefficients.now (sym found.fault), length-scans c.args.self)
 
+pub returns-in-Ok : goal.returns-in-Ok
+unfolding scans
+returns-in-Ok c =
+    let r = c.args.self in
+    let found = rw c.list.ensures at c.in-Ok.ensures in
+    accepts (correct c.args.k c.args.coefficients.now) r _ (sym found.fault) refl refl refl
+    (scans-corrected r c.args.k c.in-Ok.knot (there (goal.at.returns-in-Ok c).In-Ok) ∙ ap (set (scans r) c.args.k) found.knot)
+
 pub listed : goal.listed
-listed c = omega (arith, there c, c.args.self.room, c.args.self.few)
+listed c = omega (arith, there (goal.at.listed c).In-Ok, c.args.self.room, c.args.self.few)
 
 pub bounds-self-k : goal.bounds-self-k
-bounds-self-k c = omega (arith, there c, c.args.self.few)
+bounds-self-k c = omega (arith, there (goal.at.bounds-self-k c).In-Ok, c.args.self.few)
 
 pub invariant_of-self : goal.invariant_of-self
 invariant_of-self c =
@@ -43,11 +51,3 @@ invariant_of-self c =
       standing = rw (scans-corrected r c.args.k knot (there (goal.at.invariant_of-self c).In-Ok), found.knot)
           (changed-stands (correct c.args.k c.args.coefficients.now) r (sym found.fault));
     }
-
-pub returns-in-Ok : goal.returns-in-Ok
-unfolding scans
-returns-in-Ok c =
-    let r = c.args.self in
-    let found = rw c.list.ensures at c.in-Ok.ensures in
-    accepts (correct c.args.k c.args.coefficients.now) r _ (sym found.fault) refl refl refl
-    (scans-corrected r c.args.k c.in-Ok.knot (there (goal.at.returns-in-Ok c).In-Ok) ∙ ap (set (scans r) c.args.k) found.knot)
