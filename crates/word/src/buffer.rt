@@ -20,5 +20,9 @@ pub fn store(bytes: &mut [u8], k: usize, word: u32)
     requires { 4 * k + 4 ≤ length bytes.old }
     ensures { bytes.new ≡ sets bytes.old (4 * k) (bytes_of word) }
 {
-    bytes[4 * k..4 * k + 4].copy_from_slice(&word.to_le_bytes());
+    let [b0, b1, b2, b3] = word.to_le_bytes();
+    bytes[4 * k] = b0;
+    bytes[4 * k + 1] = b1;
+    bytes[4 * k + 2] = b2;
+    bytes[4 * k + 3] = b3;
 }
