@@ -9,7 +9,8 @@ use first_cause::{append_cause, correct_cause, query_cause, range_cause};
 use knot::{KNOTS_MAX, Knot, Refusal};
 
 // The first `count` knots are the list; the others are free, since the engine allocates nothing. What a reel holds can
-// stand: that is part of the type.
+// stand: that is part of the type. The knots and their count are fields here as in `Contents`, since what each call
+// promises speaks of them (`scans` of reel/specs/Machine.antt).
 #[derive(Clone, Copy)]
 pub struct Reel {
     pub(crate) knots: [Knot; KNOTS_MAX],

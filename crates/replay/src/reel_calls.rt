@@ -96,7 +96,8 @@ fn last(mut fields: Fields) -> Result<u32, Unreadable> {
     Ok(x)
 }
 
-// `value X`.
+// `value X`. It and `trend X` stay two, as those of the reel do: each promises whose reel goes on, and one function
+// over the call would have to ask it of that call first.
 pub fn value<W: Write>(out: &mut W, reel: Reel, fields: Fields) -> Result<Reel, LineError>
     ensures { IfOk result (λ r. r ≡ reel) }
 {
