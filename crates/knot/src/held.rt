@@ -49,7 +49,7 @@ impl Knot {
     pub fn list(&self) -> &[i32]
         ensures { result.now ≡ (scan self.now).coefficients }
     {
-        &self.coefficients[..self.grade as usize + 1]
+        &self.coefficients[..usize::from(self.grade) + 1]
     }
 
     // What is too large of the list that serves the piece on the left of knot k, of h steps. It and the next are two,

@@ -14,7 +14,8 @@ const MOST: i64 = SIZE_MAX as i64;
 const LEAST: i64 = 0 - MOST;
 
 // What is too large of the list of knot k with the gap h: the first order j of which |C_j| × h^j exceeds 2^28. |C_j| is
-// not formed: C_j × h^j is compared on both sides of 0, and of the two comparisons the compiler makes one.
+// not formed: C_j × h^j is compared on both sides of 0, and of the two comparisons the compiler makes one. The casts in
+// the product are `as`, since its proof is stated so.
 pub fn list_reason(k: u32, h: u64, list: &[i32]) -> Result<(), Spot>
     requires { (h ≤ gap_max) × (length list.now ≤ grade_max + 1) }
     ensures { too_large result ≡ first_too_large (products k h list.now) }

@@ -35,10 +35,10 @@ fn answer<W: Write>(out: &mut W, h: u64, left: &[i32], right: &[i32], r: u64) ->
 
 // Answers the case in these bytes; one with more than 8 coefficients at an end is passed over.
 pub fn run<W: Write>(out: &mut W, bytes: &[u8]) -> io::Result<()> {
-    let h = load(bytes, 0) as u64;
+    let h = u64::from(load(bytes, 0));
     let left_count = load(bytes, 1) as usize;
     let right_count = load(bytes, 2) as usize;
-    let r = load(bytes, 3) as u64;
+    let r = u64::from(load(bytes, 3));
     let left = coefficients(bytes, 4);
     let right = coefficients(bytes, 12);
     match (left.get(..left_count), right.get(..right_count)) {

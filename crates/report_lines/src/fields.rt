@@ -15,7 +15,7 @@ pub(crate) fn put_number(out: &mut [u8], at: usize, n: u32, behind: u8) -> usize
     ensures put { Put out.old at (decimal n ++ behind ∷ []) result out.new }
     ensures upper_bound { result ≤ at + 21 }
 {
-    let end = put_decimal(out, at, n as u64);
+    let end = put_decimal(out, at, u64::from(n));
     out[end] = behind;
     end + 1
 }
