@@ -9,13 +9,13 @@ use crate::row::Row;
 use reel::Answer;
 use text::{put_decimal, put_signed};
 
-// A number, and a byte behind it.
+// A number, and a byte behind it. The cast is `as`, since the proof is stated so.
 pub(crate) fn put_number(out: &mut [u8], at: usize, n: u32, behind: u8) -> usize
     requires { at + 21 ≤ length out.old }
     ensures put { Put out.old at (decimal n ++ behind ∷ []) result out.new }
     ensures upper_bound { result ≤ at + 21 }
 {
-    let end = put_decimal(out, at, u64::from(n));
+    let end = put_decimal(out, at, n as u64);
     out[end] = behind;
     end + 1
 }
