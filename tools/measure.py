@@ -4,7 +4,8 @@
   measure.py BEFORE [AFTER]   AFTER is the last commit where it is not named
 
 Each commit is copied to a folder of its own and gets the crate `measured` (measured/crate.py), which is proved and
-built as a library for C. Both have to be of the toolchain that is installed. One program (measured/timing.c) has both
+built as a library for C. Both have to be of the toolchain that is installed, and from the design pass on, landing 19:
+what a reel has to be is part of its type there. One program (measured/timing.c) has both
 libraries. Times are taken from both in turn, 41 times in each of three runs, and the least of each is told.
 Instructions are counted by callgrind, as the difference of n rounds and 2n. Copies are the calls of memcpy, counted by
 the linker's --wrap; what they take is told by a program that makes each of them twice. It takes some twelve minutes and
