@@ -36,8 +36,8 @@ pub fn told<W: Write>(
     Ok(handed.reel)
 }
 
-// Bytes in hexadecimal.
-pub fn say_hex<W: Write>(out: &mut W, bytes: &[u8]) -> io::Result<()>
+// Bytes in hexadecimal, as many as there is room for. It is for this program alone, of which both callers have fewer.
+pub(crate) fn say_hex<W: Write>(out: &mut W, bytes: &[u8]) -> io::Result<()>
     requires { 2 * length bytes.now ≤ 524289 }
 {
     let mut digits = room(0);
