@@ -55,7 +55,8 @@ module _ (knots : List Knot) (x k : ℕ) (reached : Reached knots x) (assigned :
     pub trend_left : 0 < k → start.grade ≡ 0 → 256 * start.position ≡ x → k - 1 ≡ (trend_place (scans knots) x).k
     trend_left first lone on =
         let here : k < length knots = omega (arith, inside) in
-        sym (ap (λ p. p.k) (trend_moved (scans knots) x k assigned (omega (arith, mark_at knots k start read here)) first (omega (arith, inside, length-scans knots))
+        sym (ap (λ p. p.k) (trend_moved (scans knots) x k assigned (omega (arith, mark_at knots k start read here)) first
+        (omega (arith, inside, length-scans knots))
         (ap grade (scan_at knots k start read here) ∙ scan-grade start ∙ lone)))
 
     pub trend_here : (0 < k → start.grade ≡ 0 → 256 * start.position ≡ x → ⊥) → k ≡ (trend_place (scans knots) x).k

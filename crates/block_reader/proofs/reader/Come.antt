@@ -182,7 +182,8 @@ module _ {e : ℕ} {ws : List ℕ} {count : ℕ} {knots : List Knot} {k i x m : 
   from_word : fault e ws count ≡ ahead e end k more (last knots k) x m (drop (i + 1) ws)
   from_word =
       let to = ahead e end k more (last knots k) in
-      word.come.faults ∙ ap (λ n. first (knots_causes e end k n (last knots k) (drop i ws))) one_left ∙ knot-passed e end k more (last knots k) ws i word.passed ∙
+      word.come.faults ∙ ap (λ n. first (knots_causes e end k n (last knots k) (drop i ws))) one_left ∙
+      knot-passed e end k more (last knots k) ws i word.passed ∙
       ap₂ (λ y n. to y n (drop (suc i) ws)) (sym word.x_is) (sym word.m_is) ∙ ap (λ a. to x m (drop a ws)) (sym (add-one i))
 
   list-from_word : knots_from e (count - k) (drop i ws) ≡ scan_of x (map payload (take (m + 1) (drop (i + 1) ws))) ∷ knots_from e more

@@ -4,7 +4,8 @@ use Rattle.chain.proofs.Knots.{inside, trend_left, trend_here}
 use Rattle.chain.proofs.place.piece_of_trend.Goals as goal
 
 pub offset_bounds-knots-k : goal.offset_bounds-knots-k
-offset_bounds-knots-k c = record { fits = omega (arith, inside c.args.knots.now c.args.x c.piece_at-k.result c.requires c.piece_at-k.ensures, c.requires.chained.count) }
+offset_bounds-knots-k c =
+    record { fits = omega (arith, inside c.args.knots.now c.args.x c.piece_at-k.result c.requires c.piece_at-k.ensures, c.requires.chained.count) }
 
 pub bounds-knots-k : goal.bounds-knots-k
 bounds-knots-k c = omega (arith, inside c.args.knots.now c.args.x c.piece_at-k.result c.requires c.piece_at-k.ensures)

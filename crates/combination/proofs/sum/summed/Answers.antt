@@ -21,7 +21,8 @@ follow_reason-requires-clause-close c =
     let come = rw (to_z-of_z c.ranges.alpha, to_z-of_z c.ranges.beta) at c.loop-k.invariant.come in
     let formed = rw (to_z-of_z c.ranges.alpha, to_z-of_z c.ranges.beta) at c.combined_knot-next.ensures in
     let steps = c.in-Some.ensures.steps in
-    close _ _ _ _ c.requires (turn _ _ _ _ come c.loop-k.invariant.ahead c.loop-k.invariant.its_ahead steps.0 steps.1) c.combined_knot-next.result _ formed c.last.ensures.item
+    close _ _ _ _ c.requires (turn _ _ _ _ come c.loop-k.invariant.ahead c.loop-k.invariant.its_ahead steps.0 steps.1)
+    c.combined_knot-next.result _ formed c.last.ensures.item
 
 pub returns-in_err-follow_reason : goal.returns-in_err-follow_reason
 returns-in_err-follow_reason c =
@@ -30,7 +31,8 @@ returns-in_err-follow_reason c =
     let steps = c.in-Some.ensures.steps in
     let failed = err_from_is_err_and c.from_residual.result c.from_residual.ensures.1 in
     rw (failed.1, failed.2)
-    (fails _ _ _ _ c.requires (turn _ _ _ _ come c.loop-k.invariant.ahead c.loop-k.invariant.its_ahead steps.0 steps.1) c.combined_knot-next.result _ formed c.last.ensures.item _
+    (fails _ _ _ _ c.requires (turn _ _ _ _ come c.loop-k.invariant.ahead c.loop-k.invariant.its_ahead steps.0 steps.1)
+    c.combined_knot-next.result _ formed c.last.ensures.item _
     c.in_err-follow_reason.ensures)
 
 pub loop-k-preserved : goal.loop-k-preserved

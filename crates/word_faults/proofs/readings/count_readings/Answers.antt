@@ -17,4 +17,5 @@ returns-in_err-reading_fault c =
     let failed = err_from_is_err_and c.from_residual.result c.from_residual.ensures.1 in
     let all = wrong (words c.args.block.now) c.args.from c.loop-edition.count c.loop-edition.invariant c.load-word.result c.load-word.ensures.value
     (sym c.is_reading.ensures ∙ c.if-not-is_reading.false) (sym c.in_err-reading_fault.ensures) in
-    rw (failed.1, failed.2, eq-eqb c.args.edition readings_edition (c.if-edition-from.false ∙ c.from.ensures)) (record { fault = sym all; count = tt; few = tt })
+    rw (failed.1, failed.2, eq-eqb c.args.edition readings_edition (c.if-edition-from.false ∙ c.from.ensures))
+    (record { fault = sym all; count = tt; few = tt })
