@@ -6,3 +6,4 @@ mod hex;
 mod number;
 
 pub use field::{Fields, LINE_MAX, Unreadable, room};
+pub use number::UNSIGNED_MAX;

@@ -6,7 +6,7 @@ ghost use Rattle.reel.specs.Machine.{scans};
 
 use crate::answers::{say_hex, told};
 use crate::line_error::LineError;
-use fields::{Fields, Unreadable, room};
+use fields::{Fields, UNSIGNED_MAX, Unreadable, room};
 use reel::Reel;
 use std::io::Write;
 
@@ -17,6 +17,9 @@ pub fn clear<W: Write>(out: &mut W, reel: Reel, fields: Fields) -> Result<Reel, 
     fields.end()?;
     told(out, "clear", reel.clear(), None)
 }
+
+// The greatest number without a sign that a call takes: its arguments have 32 bits.
+pub const ARGUMENT_MAX: u32 = UNSIGNED_MAX as u32;
 
 // One more than a knot takes: a longer list is refused whatever it holds, so the rest of it is read and not kept.
 const LISTED_MAX: usize = 9;
@@ -37,7 +40,7 @@ fn listed<'r>(mut fields: Fields, room: &'r mut [i32]) -> Result<&'r [i32], Unre
 
 // `append POS C..`.
 pub fn append<W: Write>(out: &mut W, reel: Reel, mut fields: Fields) -> Result<Reel, LineError> {
-    let position = fields.unsigned(u32::MAX)?;
+    let position = fields.unsigned(ARGUMENT_MAX)?;
     let mut list = [0i32; LISTED_MAX];
     let coefficients = listed(fields, &mut list)?;
     told(
@@ -50,7 +53,7 @@ pub fn append<W: Write>(out: &mut W, reel: Reel, mut fields: Fields) -> Result<R
 
 // `correct K C..`.
 pub fn correct<W: Write>(out: &mut W, reel: Reel, mut fields: Fields) -> Result<Reel, LineError> {
-    let k = fields.unsigned(u32::MAX)?;
+    let k = fields.unsigned(ARGUMENT_MAX)?;
     let mut list = [0i32; LISTED_MAX];
     let coefficients = listed(fields, &mut list)?;
     told(
@@ -91,7 +94,7 @@ pub fn write<W: Write>(out: &mut W, reel: Reel, mut fields: Fields) -> Result<Re
 
 // The one number that is left.
 fn last(mut fields: Fields) -> Result<u32, Unreadable> {
-    let x = fields.unsigned(u32::MAX)?;
+    let x = fields.unsigned(ARGUMENT_MAX)?;
     fields.end()?;
     Ok(x)
 }
@@ -117,7 +120,7 @@ pub fn trend<W: Write>(out: &mut W, reel: Reel, fields: Fields) -> Result<Reel, 
 pub fn total<W: Write>(out: &mut W, reel: Reel, mut fields: Fields) -> Result<Reel, LineError>
     ensures { IfOk result (λ r. r ≡ reel) }
 {
-    let i = fields.unsigned(u32::MAX)?;
+    let i = fields.unsigned(ARGUMENT_MAX)?;
     let j = last(fields)?;
     told(out, "total", reel.total(i, j), None)
 }

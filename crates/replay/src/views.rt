@@ -1,6 +1,7 @@
 // The workshop's calls, which take a block and leave the reel alone: `view HEX K N` and `viewat HEX K N I`.
 use crate::answers::refused;
 use crate::line_error::LineError;
+use crate::reel_calls::ARGUMENT_MAX;
 use fields::{Fields, Unreadable, room};
 use knot::Refusal;
 use readings::{View, look};
@@ -46,8 +47,8 @@ fn say_reading<W: Write>(out: &mut W, block: &[u8], k: u32, n: u32, i: u32) -> i
 // `HEX K N`.
 fn asked<'r>(fields: &mut Fields, room: &'r mut [u8]) -> Result<(&'r [u8], u32, u32), Unreadable> {
     let block = fields.bytes(room)?;
-    let k = fields.unsigned(u32::MAX)?;
-    let n = fields.unsigned(u32::MAX)?;
+    let k = fields.unsigned(ARGUMENT_MAX)?;
+    let n = fields.unsigned(ARGUMENT_MAX)?;
     Ok((block, k, n))
 }
 
@@ -63,7 +64,7 @@ pub fn view<W: Write>(out: &mut W, mut fields: Fields) -> Result<(), LineError> 
 pub fn view_at<W: Write>(out: &mut W, mut fields: Fields) -> Result<(), LineError> {
     let mut bytes = room(0);
     let (block, k, n) = asked(&mut fields, &mut bytes)?;
-    let i = fields.unsigned(u32::MAX)?;
+    let i = fields.unsigned(ARGUMENT_MAX)?;
     fields.end()?;
     Ok(say_reading(out, block, k, n, i)?)
 }
