@@ -1,8 +1,7 @@
 // What a call is answered. Where the writer fails, so does the function, and there is no reel any more.
-ghost use Rattle.std.specs.Prelude.{◌≡◌, ◌*◌, ◌≤◌, length, IfOk};
+ghost use Rattle.std.specs.Prelude.{◌≡◌, ◌≤◌, length, IfOk};
 
 use crate::line_error::LineError;
-use fields::room;
 use knot::{Refusal, Spot};
 use reel::{Answer, Handed, Reel};
 use std::io;
@@ -36,11 +35,22 @@ pub fn told<W: Write>(
     Ok(handed.reel)
 }
 
-// Bytes in hexadecimal, as many as there is room for. It is for this program alone, of which both callers have fewer.
-pub(crate) fn say_hex<W: Write>(out: &mut W, bytes: &[u8]) -> io::Result<()>
-    requires { 2 * length bytes.now ≤ 524289 }
+// The bytes whose digits are written at a time.
+const PIECE: usize = 64;
+
+// Of at most 64 bytes.
+fn say_piece<W: Write>(out: &mut W, bytes: &[u8]) -> io::Result<()>
+    requires { length bytes.now ≤ 64 }
 {
-    let mut digits = room(0);
+    let mut digits = [0u8; 2 * PIECE];
     let end = put_hex(&mut digits, 0, bytes);
     out.write_all(&digits[..end])
+}
+
+// Bytes in hexadecimal. A piece at a time, so that no room for all their digits has to be cleared.
+pub(crate) fn say_hex<W: Write>(out: &mut W, bytes: &[u8]) -> io::Result<()> {
+    for piece in bytes.chunks(PIECE) {
+        say_piece(out, piece)?;
+    }
+    Ok(())
 }

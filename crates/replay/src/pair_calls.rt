@@ -7,7 +7,9 @@ ghost use Rattle.reel.specs.Machine.{scans};
 
 use crate::answers::{refused, say_hex};
 use crate::line_error::LineError;
+use crate::reel_calls::LENT_MAX;
 use fields::{Fields, Unreadable, room};
+use input::filled;
 use magnitude::magnitude;
 use reel::{Answer, Reel};
 use std::io;
@@ -59,16 +61,13 @@ pub fn same<W: Write>(out: &mut W, fields: Fields) -> Result<(), LineError> {
     Ok(())
 }
 
-// Room for the block of every reel.
-const BLOCK_ROOM: usize = 32_768;
-
 // The reel's block in hexadecimal.
 fn say_block<W: Write>(out: &mut W, reel: Reel) -> io::Result<()> {
-    let mut output = room(0);
+    let mut output: [u8; LENT_MAX] = filled(0);
     let written = reel.write(&mut output);
     if let Answer::Number(size) = written.answer {
         // never more than there is room for; the least of both is for the slice
-        let count = BLOCK_ROOM.min(magnitude(size) as usize);
+        let count = LENT_MAX.min(magnitude(size) as usize);
         say_hex(out, &output[..count])?;
     }
     Ok(())
@@ -86,10 +85,11 @@ fn say_sum<W: Write>(out: &mut W, alpha: i32, one: Reel, beta: i32, other: Reel)
 
 // `combine A B HEX HEX`.
 pub fn combine<W: Write>(out: &mut W, mut fields: Fields) -> Result<(), LineError> {
-    let alpha = fields.signed()?;
-    let beta = fields.signed()?;
+    // before any way out: behind one, the compiler would clear both twice
     let mut one = room(0);
     let mut other = room(0);
+    let alpha = fields.signed()?;
+    let beta = fields.signed()?;
     let (one, other) = blocks(fields, &mut one, &mut other)?;
     let one = loaded(one)?;
     let other = loaded(other)?;

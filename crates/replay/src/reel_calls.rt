@@ -7,6 +7,7 @@ ghost use Rattle.reel.specs.Machine.{scans};
 use crate::answers::{say_hex, told};
 use crate::line_error::LineError;
 use fields::{Fields, UNSIGNED_MAX, Unreadable, room};
+use input::filled;
 use reel::Reel;
 use std::io::Write;
 
@@ -72,16 +73,17 @@ pub fn read<W: Write>(out: &mut W, reel: Reel, mut fields: Fields) -> Result<Ree
     told(out, "read", reel.read(block), reel.read_reason(block))
 }
 
-// The greatest length of an output that a line may lend.
-const LENT_MAX: u32 = 32_768;
+// The greatest length of an output that a line may lend. The block of every reel is shorter.
+pub const LENT_MAX: usize = 32_768;
 
 // `write LEN`. Behind the answer stand all the lent bytes as they then are.
 pub fn write<W: Write>(out: &mut W, reel: Reel, mut fields: Fields) -> Result<Reel, LineError>
     ensures { IfOk result (λ r. r ≡ reel) }
 {
-    let count = fields.unsigned(LENT_MAX)? as usize;
+    // before any way out: behind one, the compiler would clear it twice
+    let mut output: [u8; LENT_MAX] = filled(0xa5);
+    let count = fields.unsigned(LENT_MAX as u32)? as usize;
     fields.end()?;
-    let mut output = room(0xa5);
     let lent = &mut output[..count];
     let after = told(out, "wrote", reel.write(lent), None)?;
     out.write_all(b" ")?;
