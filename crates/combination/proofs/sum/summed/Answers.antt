@@ -16,14 +16,6 @@ combined_knot-next-requires-clause-alike c =
     let steps = c.in-Some.ensures.steps in
     same-grade _ _ _ _ c.requires (turn _ _ _ _ come c.loop-k.invariant.ahead c.loop-k.invariant.its_ahead steps.0 steps.1)
 
-pub follow_reason-requires-clause-close : goal.follow_reason-requires-clause-close
-follow_reason-requires-clause-close c =
-    let come = rw (to_z-of_z c.ranges.alpha, to_z-of_z c.ranges.beta) at c.loop-k.invariant.come in
-    let formed = rw (to_z-of_z c.ranges.alpha, to_z-of_z c.ranges.beta) at c.combined_knot-next.ensures in
-    let steps = c.in-Some.ensures.steps in
-    close _ _ _ _ c.requires (turn _ _ _ _ come c.loop-k.invariant.ahead c.loop-k.invariant.its_ahead steps.0 steps.1)
-    c.combined_knot-next.result _ formed c.last.ensures.item
-
 pub returns-in_err-follow_reason : goal.returns-in_err-follow_reason
 returns-in_err-follow_reason c =
     let come = rw (to_z-of_z c.ranges.alpha, to_z-of_z c.ranges.beta) at c.loop-k.invariant.come in
@@ -34,6 +26,14 @@ returns-in_err-follow_reason c =
     (fails _ _ _ _ c.requires (turn _ _ _ _ come c.loop-k.invariant.ahead c.loop-k.invariant.its_ahead steps.0 steps.1)
     c.combined_knot-next.result _ formed c.last.ensures.item _
     c.in_err-follow_reason.ensures)
+
+pub follow_reason-requires-clause-close : goal.follow_reason-requires-clause-close
+follow_reason-requires-clause-close c =
+    let come = rw (to_z-of_z c.ranges.alpha, to_z-of_z c.ranges.beta) at c.loop-k.invariant.come in
+    let formed = rw (to_z-of_z c.ranges.alpha, to_z-of_z c.ranges.beta) at c.combined_knot-next.ensures in
+    let steps = c.in-Some.ensures.steps in
+    close _ _ _ _ c.requires (turn _ _ _ _ come c.loop-k.invariant.ahead c.loop-k.invariant.its_ahead steps.0 steps.1)
+    c.combined_knot-next.result _ formed c.last.ensures.item
 
 pub loop-k-preserved : goal.loop-k-preserved
 loop-k-preserved c =

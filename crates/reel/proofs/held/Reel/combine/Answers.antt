@@ -17,6 +17,14 @@ returns-in-Err c =
     sum-refuses c.args.alpha c.args.beta c.args.self c.args.other c.cause.result c.refused.result c.refused.ensures
     (sym found.cause ∙ ap some (sym c.cause.ensures))
 
+pub returns-in-Ok : goal.returns-in-Ok
+unfolding scans
+returns-in-Ok c =
+    let found = rw (to_z-of_z {w = w32} c.ranges.alpha, to_z-of_z {w = w32} c.ranges.beta, c.list.ensures, c.list-2.ensures) at c.in-Ok.ensures in
+    let many : length c.list.result.now ≡ c.args.self.count =
+    omega (arith, Lists.length-scans c.list.result.now, ap length c.list.ensures, length-scans c.args.self) in
+    sum-accepts c.args.alpha c.args.beta c.args.self c.args.other _ (sym found.cause) (rw many at found.are)
+
 pub invariant_of-result : goal.invariant_of-result
 invariant_of-result c =
     let found = rw (to_z-of_z {w = w32} c.ranges.alpha, to_z-of_z {w = w32} c.ranges.beta, c.list.ensures, c.list-2.ensures) at c.in-Ok.ensures in
@@ -27,11 +35,3 @@ invariant_of-result c =
       few = c.args.self.few;
       standing = rw (← many, found.are) (sum-stands c.args.alpha c.args.beta c.args.self c.args.other (sym found.cause));
     }
-
-pub returns-in-Ok : goal.returns-in-Ok
-unfolding scans
-returns-in-Ok c =
-    let found = rw (to_z-of_z {w = w32} c.ranges.alpha, to_z-of_z {w = w32} c.ranges.beta, c.list.ensures, c.list-2.ensures) at c.in-Ok.ensures in
-    let many : length c.list.result.now ≡ c.args.self.count =
-    omega (arith, Lists.length-scans c.list.result.now, ap length c.list.ensures, length-scans c.args.self) in
-    sum-accepts c.args.alpha c.args.beta c.args.self c.args.other _ (sym found.cause) (rw many at found.are)
