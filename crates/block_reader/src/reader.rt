@@ -10,7 +10,7 @@ ghost use Rattle.block.specs.Reading.{block_causes, edition_of, list_of};
 ghost use Rattle.block_reader.specs.Machine.{Reads, ReadsKnots};
 
 use crate::contents::Contents;
-use following::follow_reason;
+use following::{follow_reason, neighbour_position};
 use knot::{COEFFICIENTS_MAX, Fault, KNOTS_MAX, Knot, Refusal};
 use word::{edition, grade, kind, knot_count, load, payload, position};
 use word_faults::{count_readings, end_fault, header_fault, knot_fault, length_fault};
@@ -27,7 +27,7 @@ fn read_knots(block: &[u8], edition: u32, count: usize) -> Result<Contents, Faul
         for k in 0..count {
             let last = knots[..k].last();
             let word = load(block, i);
-            if let Err(cause) = knot_fault(last, word) {
+            if let Err(cause) = knot_fault(neighbour_position(last), word) {
                 break 'words Err(Fault::Cause(cause));
             }
             let m = grade(word) as usize;

@@ -1,5 +1,6 @@
 -- What is found of a call that puts a knot into the list.
 use Rattle.std.specs.Prelude.{List, ◌≡◌, ℕ, ℤ, length, Result, IfOk}
+use Rattle.std.proofs.Math.Option.{Option}
 use Rattle.scans.specs.Scan.{Scan, scan_of, at, before, after}
 use Rattle.scans.specs.SizeRule.{Product, size_products, append_products}
 use Rattle.scans.specs.RefusalTable.{Cause, first}
@@ -23,6 +24,12 @@ FindsAppended r scans x C =
     let last = before scans count in
     Finds r (append_causes count last x C) (append_products count last (scan_of x C)) (scan_of x C)
 
+-- what a correct of knot k of so many finds, which lies at x between these neighbours: the first of its causes, or else
+-- the knot with the new coefficients, at x
+abbrev pub FindsBetween : Result Knot Fault → ℕ → ℕ → Option Scan → ℕ → Option Scan → List ℤ → Type 0
+FindsBetween r k count left x right C =
+    Finds r (correct_causes k count left x right C) (size_products k left (scan_of x C) right) (scan_of x C)
+
 -- what a correct of scan k of these needs and finds: the scans before and after it, where there are any, are at most 16
 -- steps away; the first of its causes, or else the knot with the new coefficients, where scan k lies
 abbrev pub CloseBeside : List Scan → ℕ → Type 0
@@ -31,7 +38,4 @@ CloseBeside scans k =
 
 abbrev pub FindsCorrected : Result Knot Fault → List Scan → ℕ → List ℤ → Type 0
 FindsCorrected r scans k C =
-    let x = (at scans k).position in
-    let left = before scans k in
-    let right = after scans k in
-    Finds r (correct_causes k (length scans) left x right C) (size_products k left (scan_of x C) right) (scan_of x C)
+    FindsBetween r k (length scans) (before scans k) (at scans k).position (after scans k) C

@@ -5,5 +5,5 @@
 mod changes;
 mod queries;
 
-pub use changes::{append_cause, correct_cause};
+pub use changes::{append_cause, correct_cause, correct_in_list};
 pub use queries::{KNOTS_MIN, query_cause, range_cause};

@@ -16,9 +16,11 @@ pub fn query_cause(knots: &[Knot], x: u32) -> Result<(), Refusal>
     ensures { refusal result ≡ RefusalTable.first (query_causes (length (scans knots.now))
         (mark (scans knots.now) 0) (mark (scans knots.now) (length (scans knots.now) - 1)) x) }
 {
-    let [first, .., last] = knots else {
+    if knots.len() < KNOTS_MIN {
         return Err(Refusal::Few);
-    };
+    }
+    let first = &knots[0];
+    let last = &knots[knots.len() - 1];
     if u64::from(x) < POSITION_UNIT * u64::from(first.position) {
         return Err(Refusal::Outside);
     }

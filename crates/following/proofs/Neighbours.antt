@@ -1,9 +1,9 @@
--- The neighbours that a lent list of knots hands over are those of its scans.
+-- The neighbours that a lent list of knots hands over are those of its scans; and a neighbour's scan lies at its position.
 use Rattle.std.proofs.Common.{arith}
 use Rattle.std.specs.Borrow.{Bor}
 use Rattle.std.specs.List.{HoldsAt, slice_get}
-use Rattle.std.specs.Option.{option_copied}
-use Rattle.std.specs.Prelude.{List, [], ◌∷◌, ◌≡◌, ℕ, zero, suc, ◌-◌, ◌≤◌, ◌<◌, length, take, Option as Given, Some, None, MatchOption}
+use Rattle.std.specs.Option.{option_copied, option_map}
+use Rattle.std.specs.Prelude.{List, [], ◌∷◌, ◌≡◌, ℕ, zero, suc, ◌-◌, ◌≤◌, ◌<◌, length, take, ℤ, Option as Given, Some, None, MatchOption}
 use Rattle.std.proofs.Math.Option.{Option, none, some}
 use Rattle.std.proofs.Math.ListN.{get_elem?}
 use Rattle.std.proofs.Common.{refl, sym, ◌∙◌, ap}
@@ -13,7 +13,7 @@ use Rattle.scans.proofs.Lists.{there, past}
 use Rattle.knot.specs.Machine.{scan, scans}
 use Rattle.knot.proofs.Lists.{length-scans, at_scans}
 use Rattle.knot.specs.declared.held.Knot.{Knot}
-use Rattle.following.specs.Machine.{neighbour}
+use Rattle.following.specs.Machine.{neighbour, lying, CloseBefore, CloseAfter}
 
 -- the scan of a knot, where there is one
 abbrev own : Given Knot → Option Scan
@@ -28,6 +28,24 @@ own_at : (knots : List Knot) (i : ℕ) → own (slice_get knots i) ≡ get_elem?
 own_at [] i = refl
 own_at (k ∷ knots) zero = refl
 own_at (k ∷ knots) (suc i) = own_at knots i
+
+-- its list; with it the scan at a neighbour's position is the neighbour's own
+abbrev pub own_list : Given (Bor Knot) → List ℤ
+own_list None = []
+own_list (Some k) = (scan k.now).coefficients
+
+pub lying_own : (r : Given (Bor Knot)) (p : Given ℕ) → p ≡ option_map (λ k. k.now.position) r → lying p (own_list r) ≡ neighbour r
+lying_own None p e = ap (λ o. lying o []) e
+lying_own (Some k) p e = ap (λ o. lying o (own_list (Some k))) e
+
+-- how near it is does not depend on its list
+pub near_before : (p : Given ℕ) (A B : List ℤ) (x : ℕ) → CloseBefore (lying p A) x → CloseBefore (lying p B) x
+near_before None A B x h = h
+near_before (Some l) A B x h = h
+
+pub near_after : (p : Given ℕ) (A B : List ℤ) (x : ℕ) → CloseAfter x (lying p A) → CloseAfter x (lying p B)
+near_after None A B x h = h
+near_after (Some r) A B x h = h
 
 -- the last of the first k knots stands before place k
 own_last : (knots : List Knot) (i : ℕ) → i < length knots → own (slice_get (take (suc i) knots) i) ≡ get_elem? (scans knots) i

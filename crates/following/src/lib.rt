@@ -3,4 +3,4 @@
 
 mod causes;
 
-pub use causes::{follow_reason, list_cause, position_cause, size_reason};
+pub use causes::{follow_reason, list_cause, neighbour_position, position_cause, size_reason};

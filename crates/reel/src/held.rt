@@ -5,7 +5,7 @@ ghost use Rattle.scans.specs.Standing.{Standing};
 ghost use Rattle.knot.specs.Machine.{scans as scans_in};
 
 use crate::answer::{Answer, Handed};
-use first_cause::{append_cause, correct_cause, query_cause, range_cause};
+use first_cause::{append_cause, correct_in_list, query_cause, range_cause};
 use knot::{KNOTS_MAX, Knot, Refusal};
 
 // The first `count` knots are the list; the others are free, since the engine allocates nothing. What a reel holds can
@@ -102,7 +102,7 @@ impl Reel {
     pub fn correct(mut self, k: u32, coefficients: &[i32]) -> Handed
         ensures { Does (Calls.correct k coefficients.now) self result.answer result.reel [] }
     {
-        match correct_cause(self.list(), k, coefficients) {
+        match correct_in_list(self.list(), k, coefficients) {
             Err(fault) => self.refused(fault.cause()),
             Ok(knot) => {
                 self.knots[k as usize] = knot;

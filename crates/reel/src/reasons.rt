@@ -8,7 +8,7 @@ ghost use Rattle.calls.specs.Reason.{reason_for, sum_reason};
 ghost use Rattle.reel.specs.Machine.{scans};
 
 use crate::held::Reel;
-use first_cause::{append_cause, correct_cause};
+use first_cause::{append_cause, correct_in_list};
 use knot::{Fault, Spot};
 
 // The reason of what is found.
@@ -30,7 +30,7 @@ impl Reel {
     pub fn correct_reason(self, k: u32, coefficients: &[i32]) -> Option<Spot>
         ensures { spot_in result ≡ reason_for (Calls.correct k coefficients.now) (scans self) }
     {
-        reason(correct_cause(self.list(), k, coefficients))
+        reason(correct_in_list(self.list(), k, coefficients))
     }
 
     // Why a read answers 6: the first product that exceeds the limit, of each knot of the block in turn as if appended.

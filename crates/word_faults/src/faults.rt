@@ -1,15 +1,15 @@
 // The faults of a block: of its length and of each word at its place. A match on the kind number is document 01's form.
-ghost use Rattle.std.specs.Prelude.{[], ◌∷◌, ◌-◌, drop, length, ◌≡◌};
+ghost use Rattle.std.specs.Prelude.{[], ◌∷◌, ◌-◌, List, drop, length, ◌≡◌, ℤ};
 ghost use Rattle.scans.specs.RefusalTable.{first};
 ghost use Rattle.knot.specs.Machine.{refusal};
-ghost use Rattle.following.specs.Machine.{neighbour};
+ghost use Rattle.following.specs.Machine.{lying};
 ghost use Rattle.block.specs.Bytes.{words};
 ghost use Rattle.block.specs.Reading.{end_causes, header_causes, knot_causes, length_causes, reading_causes};
 ghost use Rattle.block.specs.Reading.{is_edition, is_reading};
 
 use block::{PLAIN_EDITION, READINGS_EDITION};
 use following::position_cause;
-use knot::{KNOTS_MAX, Knot, READINGS_MAX, Refusal};
+use knot::{KNOTS_MAX, READINGS_MAX, Refusal};
 use word::{
     edition, header_spare, kind, knot_count, knot_spare, load, position, reading_mark,
     reading_spare, words_before,
@@ -50,9 +50,9 @@ pub fn header_fault(word: u32) -> Result<(), Refusal>
     }
 }
 
-// Of a knot word after the last knot: its form, then 4 and 5.
-pub fn knot_fault(last: Option<&Knot>, word: u32) -> Result<(), Refusal>
-    ensures { refusal result ≡ first (knot_causes (neighbour last.entry) word) }
+// Of a knot word after the position of the last knot, whatever its list is: its form, then 4 and 5.
+pub fn knot_fault(last: Option<u16>, word: u32) -> Result<(), Refusal>
+    ensures { (A : List ℤ) → refusal result ≡ first (knot_causes (lying last A) word) }
 {
     match kind(word) {
         1 => {

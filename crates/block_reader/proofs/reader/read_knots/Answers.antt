@@ -1,5 +1,6 @@
 -- One word more of a knot, one knot more, and each fault as the first of all.
 use Rattle.std.proofs.Common.{true, [], ◌∷◌, ◌≡◌, ℕ, ◌+◌, ◌-◌, ◌≤◌, refl, sym, ◌∙◌, ap, ap₂, arith, drop, take, get_or, length}
+use Rattle.std.proofs.Math.Option.{none}
 use Rattle.std.proofs.lemmas.Result.{err_from_is_err_and}
 use Rattle.rounding.specs.Limits.{grade_max}
 use Rattle.scans.specs.Scan.{scan_of}
@@ -8,6 +9,7 @@ use Rattle.scans.specs.RefusalTable.{first, bad_form}
 use Rattle.knot.specs.Machine.{too_large as spot_of}
 use Rattle.knot.specs.declared.table.Refusal.TheVariants as Refusals
 use Rattle.following.specs.Machine.{neighbour}
+use Rattle.following.proofs.Neighbours.{own_list, lying_own}
 use Rattle.block.specs.Fields.{kind, position, grade}
 use Rattle.block.specs.Bytes.{words}
 use Rattle.block.specs.Reading.{reading_words, knot_causes, reading_causes, end_causes}
@@ -25,15 +27,25 @@ module _ (c : After-grade-m) where
   last_is : neighbour c.last-last.result ≡ last c.loop-k.knots c.loop-k.k
   last_is = neighbour_last c.last-last.result c.loop-k.knots c.loop-k.k (omega (arith, c.loop-k.invariant.room)) c.last-last.ensures.value
 
+  -- nothing is found of the word after the knot's position
+  passed : none ≡ first (knot_causes (neighbour c.last-last.result) c.load-word.result)
+  passed = rw (lying_own c.last-last.result c.neighbour_position.result c.neighbour_position.ensures)
+      at (c.in_default.ensures (own_list c.last-last.result))
+
   word : (x : ℕ) → x ≡ position (get_or (words c.args.block.now) c.loop-k.i 0) →
       AtWord c.args.edition (words c.args.block.now) c.args.count c.loop-k.knots c.loop-k.k c.loop-k.i x c.grade-m.result
   word x x_is = record {
     come = c.loop-k.invariant;
     due = c.loop-k-test.true;
-    passed = ap₂ (λ l w. first (knot_causes l w)) (sym last_is) (sym c.load-word.ensures.value) ∙ sym c.in_default.ensures;
+    passed = ap₂ (λ l w. first (knot_causes l w)) (sym last_is) (sym c.load-word.ensures.value) ∙ sym passed;
     x_is = x_is;
     m_is = c.grade-m.ensures ∙ ap grade c.load-word.ensures.value;
   }
+
+pub follow_reason-requires-clause-close : goal.follow_reason-requires-clause-close
+follow_reason-requires-clause-close c =
+    let quiet = passed (goal.at.follow_reason-requires-clause-close c).After-grade-m in
+    grind (arith, quiet, c.position.ensures)
 
 pub loop-j-preserved : goal.loop-j-preserved
 loop-j-preserved c =
@@ -88,7 +100,8 @@ returns-in_err-end_fault c =
 pub returns-in-Err : goal.returns-in-Err
 returns-in-Err c =
     let is = neighbour_last c.last-last.result c.loop-k.knots c.loop-k.k (omega (arith, c.loop-k.invariant.room)) c.last-last.ensures.value in
-    let here = c.in-Err.ensures ∙ ap₂ (λ l w. first (knot_causes l w)) is c.load-word.ensures.value in
+    let lies = lying_own c.last-last.result c.neighbour_position.result c.neighbour_position.ensures ∙ is in
+    let here = c.in-Err.ensures (own_list c.last-last.result) ∙ ap₂ (λ l w. first (knot_causes l w)) lies c.load-word.ensures.value in
     refuses c.in-Err.cause (knot_causes (last c.loop-k.knots c.loop-k.k) (get_or (words c.args.block.now) c.loop-k.i 0)) (refl, (refl, (refl, tt))) here
     (word-found c.loop-k.invariant c.loop-k-test.true (sym here))
 

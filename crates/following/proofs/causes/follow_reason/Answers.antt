@@ -1,9 +1,10 @@
 -- What is too large of the held knot with the new gap; and of the new knot, where the held one names nothing.
-use Rattle.std.proofs.Common.{true, ◌-◌, refl, sym, ◌∙◌}
+use Rattle.std.proofs.Common.{true, [], ◌-◌, refl, sym, ◌∙◌}
 use Rattle.std.proofs.lemmas.Result.{err_from_is_err_and}
 use Rattle.scans.specs.Scan.{right_list}
 use Rattle.scans.proofs.SizeRule.{at_gap, held_found, held-passed}
 use Rattle.knot.specs.Machine.{scan}
+use Rattle.following.proofs.Neighbours.{own_list, lying_own}
 use Rattle.following.proofs.causes.follow_reason.Goals as goal
 use Rattle.following.proofs.causes.follow_reason.Goals.{in-Some+in_ok-right_reason, in_default}
 
@@ -17,7 +18,8 @@ returns-in_err-right_reason c =
 
 pub returns : goal.returns
 returns c =
-    c.size_reason.ensures ∙ elim c.match-last.branch [
+    let is = lying_own c.args.last c.neighbour_position.result c.neighbour_position.ensures in
+    (rw is at (c.size_reason.ensures (own_list c.args.last) [])) ∙ elim c.match-last.branch [
       | in-Some+in_ok-right_reason w ↦
           let held = scan w.in-Some.held.now in
           rw w.in-Some.is

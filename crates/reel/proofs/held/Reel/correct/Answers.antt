@@ -10,8 +10,8 @@ use Rattle.reel.proofs.held.Promises.{refuses, accepts, changed-stands}
 use Rattle.reel.proofs.held.Reel.correct.Goals as goal
 use Rattle.reel.proofs.held.Reel.correct.Goals.{In-Ok}
 
-pub correct_cause-requires : goal.correct_cause-requires
-correct_cause-requires c = rw c.list.ensures (λ h. close_beside (scans c.args.self) (stands c.args.self) c.args.k
+pub correct_in_list-requires : goal.correct_in_list-requires
+correct_in_list-requires c = rw c.list.ensures (λ h. close_beside (scans c.args.self) (stands c.args.self) c.args.k
     (omega (arith, h, Lists.length-scans c.list.result.now, ap length c.list.ensures)))
 
 pub returns-in-Err : goal.returns-in-Err

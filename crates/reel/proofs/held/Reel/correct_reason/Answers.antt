@@ -7,11 +7,11 @@ use Rattle.reel.proofs.Scans.{stands}
 use Rattle.reel.proofs.held.Found.{close_beside}
 use Rattle.reel.proofs.held.Reel.correct_reason.Goals as goal
 
-pub correct_cause-requires : goal.correct_cause-requires
-correct_cause-requires c =
+pub correct_in_list-requires : goal.correct_in_list-requires
+correct_in_list-requires c =
     rw c.list.ensures (λ h. close_beside (scans c.args.self) (stands c.args.self) c.args.k
     (omega (arith, h, length-scans c.list.result.now, ap length c.list.ensures)))
 
 pub returns : goal.returns
 unfolding reason_for
-returns c = c.reason.ensures ∙ (rw c.list.ensures at c.correct_cause.ensures).reason
+returns c = c.reason.ensures ∙ (rw c.list.ensures at c.correct_in_list.ensures).reason
