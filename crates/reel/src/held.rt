@@ -21,7 +21,9 @@ pub struct Reel {
 }
 
 impl Reel {
-    ghost use Rattle.std.specs.Prelude.{[], ◌≡◌, length};
+    ghost use Rattle.std.specs.Prelude.{[], ◌∷◌, ◌++◌, ◌≡◌, ◌<◌, length, set};
+    ghost use Rattle.scans.specs.Standing.{Standing};
+    ghost use Rattle.knot.specs.Machine.{scan};
     ghost use Rattle.rounding.specs.Limits.{gap_max, grade_max, knots_max, size_max};
     ghost use Rattle.knot.specs.Machine.{scans as scans_in};
     ghost use Rattle.block.specs.Block.{block, plain_edition};
@@ -81,37 +83,54 @@ impl Reel {
         }
     }
 
-    // The list with one knot more at its end.
-    pub fn append(mut self, position: u32, coefficients: &[i32]) -> Handed
+    // One knot more at the end of the list, which can then stand.
+    fn push(&mut self, knot: Knot)
+        requires room { self.old.count < knots_max }
+        requires standing { Standing (scans self.old ++ scan knot ∷ []) }
+        ensures { scans self.new ≡ scans self.old ++ scan knot ∷ [] }
+    {
+        self.knots[self.count] = knot;
+        self.count += 1;
+    }
+
+    // Another knot in place k of the list, which can then stand.
+    fn put(&mut self, k: usize, knot: Knot)
+        requires there { k < self.old.count }
+        requires standing { Standing (set (scans self.old) k (scan knot)) }
+        ensures { scans self.new ≡ set (scans self.old) k (scan knot) }
+    {
+        self.knots[k] = knot;
+    }
+
+    // The list with one knot more at its end. The reel is lent from the answer's own place, here and in `correct`: lent as
+    // it came, it would be copied once more.
+    pub fn append(self, position: u32, coefficients: &[i32]) -> Handed
         ensures { Does (Calls.append position coefficients.now) self result.answer result.reel [] }
     {
-        match append_cause(self.list(), position, coefficients) {
-            Err(fault) => self.refused(fault.cause()),
-            Ok(knot) => {
-                self.knots[self.count] = knot;
-                self.count += 1;
-                Handed {
-                    reel: self,
-                    answer: Answer::Accepted,
-                }
-            }
+        let mut handed = Handed {
+            reel: self,
+            answer: Answer::Accepted,
+        };
+        match append_cause(handed.reel.list(), position, coefficients) {
+            Err(fault) => handed.answer = Answer::Refused(fault.cause()),
+            Ok(knot) => handed.reel.push(knot),
         }
+        handed
     }
 
     // Knot k with other coefficients.
-    pub fn correct(mut self, k: u32, coefficients: &[i32]) -> Handed
+    pub fn correct(self, k: u32, coefficients: &[i32]) -> Handed
         ensures { Does (Calls.correct k coefficients.now) self result.answer result.reel [] }
     {
-        match correct_in_list(self.list(), k, coefficients) {
-            Err(fault) => self.refused(fault.cause()),
-            Ok(knot) => {
-                self.knots[k as usize] = knot;
-                Handed {
-                    reel: self,
-                    answer: Answer::Accepted,
-                }
-            }
+        let mut handed = Handed {
+            reel: self,
+            answer: Answer::Accepted,
+        };
+        match correct_in_list(handed.reel.list(), k, coefficients) {
+            Err(fault) => handed.answer = Answer::Refused(fault.cause()),
+            Ok(knot) => handed.reel.put(k as usize, knot),
         }
+        handed
     }
 
     // The list of a block, or the number of its first fault. An accepted block of edition 1 is the block of its list.

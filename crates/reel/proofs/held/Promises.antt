@@ -23,7 +23,7 @@ use Rattle.reel.specs.declared.answer.Handed.{Handed}
 use Rattle.calls.proofs.Standing.{standing-after}
 
 -- a refused call leaves the reel itself and the output that was lent
-refuses_by : (call : Call) (r : Reel) (cause : Refusal) → first (causes call (scans r)) ≡ some (refusalNumber cause) →
+pub refuses_by : (call : Call) (r : Reel) (cause : Refusal) → first (causes call (scans r)) ≡ some (refusalNumber cause) →
     Does call r (Answers.Refused cause) r (lent call)
 refuses_by call r cause e = record {
   replies = sym (refusal-replies call (scans r) e);
