@@ -102,8 +102,8 @@ impl Reel {
         self.knots[k] = knot;
     }
 
-    // The list with one knot more at its end. The reel is lent from the answer's own place, here and in `correct`: lent as
-    // it came, it would be copied once more.
+    // The list with one knot more at its end. The reel is lent from the answer's own place, here and in `correct`:
+    // lent as it came, it would be copied once more.
     pub fn append(self, position: u32, coefficients: &[i32]) -> Handed
         ensures { Does (Calls.append position coefficients.now) self result.answer result.reel [] }
     {
